@@ -1,0 +1,6 @@
+pub mod Ring
+pub mod Sum
+pub mod Combination
+pub mod Hom
+pub mod Modular
+pub mod Halves

@@ -1,0 +1,79 @@
+-- For every N ≥ 1 the residues modulo N are a commutative ring, and taking the number of a residue is a map of operations to modular N.
+-- So it is for words, at N = 2^64.
+use mathlib.Core.Path.{_≡_, refl, sym, ap, _∙_}
+use mathlib.Core.HLevel.{Σ-prop-path, prop→set, Σ-set}
+use Prim.Native.Nat.{ℕ, _+_, _-_, _*_, _/_, _%_, _^_, _≤_, _<_}
+use native.Mathlib.Bridge.{le-prop}
+use native.Mathlib.Nat.{ℕ-set, le-of-lt, mod-eq-of-lt, mod-add-mod, add-mod-mod, mod-self, add-assoc, add-comm, mul-comm, mul-assoc, mul-add, add-mul-mod-self-right, mod-add-div', zero-add, one-mul}
+use native.Mathlib.Omega.{arith}
+use Rattle.ring.specs.Ring.{Ring, Hom}
+use Rattle.ring.specs.Modular.{modular, words, Residue, number, residues}
+
+-- ---- numbers, with each result reduced modulo N
+
+module _ (N : ℕ) where
+  reduced : {a b : ℕ} → a ≡ b → a % N ≡ b % N
+  reduced e = ap (λ x. x % N) e
+
+  mul-mod-left : (a b : ℕ) → a % N * b % N ≡ a * b % N
+  mul-mod-left a b = sym (reduced parts ∙ add-mul-mod-self-right (a % N * b) (a / N * b) N)
+    where
+      parts : a * b ≡ a % N * b + a / N * b * N
+      parts = omega (arith, ap (λ x. x * b) (mod-add-div' a N))
+
+  mul-mod-right : (a b : ℕ) → a * (b % N) % N ≡ a * b % N
+  mul-mod-right a b = reduced (mul-comm a (b % N)) ∙ mul-mod-left b a ∙ reduced (mul-comm b a)
+
+  add-assoc-mod : (a b c : ℕ) → ((a + b) % N + c) % N ≡ (a + (b + c) % N) % N
+  add-assoc-mod a b c = mod-add-mod (a + b) N c ∙ reduced (add-assoc a b c) ∙ sym (add-mod-mod a (b + c) N)
+
+  neg-add-mod : (a : ℕ) → a ≤ N → ((N - a) % N + a) % N ≡ 0
+  neg-add-mod a h = mod-add-mod (N - a) N a ∙ reduced back ∙ mod-self N
+    where
+      back : N - a + a ≡ N
+      back = omega arith
+
+  mul-assoc-mod : (a b c : ℕ) → a * b % N * c % N ≡ a * (b * c % N) % N
+  mul-assoc-mod a b c = mul-mod-left (a * b) c ∙ reduced (mul-assoc a b c) ∙ sym (mul-mod-right a (b * c))
+
+  one-mul-mod : (a : ℕ) → 1 % N * a % N ≡ a % N
+  one-mul-mod a = mul-mod-left 1 a ∙ reduced (one-mul a)
+
+  mul-add-mod : (a b c : ℕ) → a * ((b + c) % N) % N ≡ (a * b % N + a * c % N) % N
+  mul-add-mod a b c = mul-mod-right a (b + c) ∙ reduced (mul-add a b c) ∙ sym (mod-add-mod (a * b) N (a * c % N) ∙ add-mod-mod (a * b) (a * c) N)
+
+-- ---- residues
+
+pub same-number : (N : ℕ) {a b : Residue N} → number N a ≡ number N b → a ≡ b
+same-number N e = Σ-prop-path (λ n. le-prop) e
+
+module _ (N : ℕ) (pos : 0 < N) where
+  pub residues-ring : Ring (Residue N) (residues N pos)
+  unfolding residues modular
+  residues-ring = record {
+    set = Σ-set ℕ-set (λ n. prop→set le-prop);
+    add-assoc = λ a b c. same-number N (add-assoc-mod N (a .0) (b .0) (c .0));
+    add-comm = λ a b. same-number N (reduced N (add-comm (a .0) (b .0)));
+    zero-add = λ a. same-number N (reduced N (zero-add (a .0)) ∙ mod-eq-of-lt (a .1));
+    neg-add = λ a. same-number N (neg-add-mod N (a .0) (le-of-lt (a .1)));
+    mul-assoc = λ a b c. same-number N (mul-assoc-mod N (a .0) (b .0) (c .0));
+    mul-comm = λ a b. same-number N (reduced N (mul-comm (a .0) (b .0)));
+    one-mul = λ a. same-number N (one-mul-mod N (a .0) ∙ mod-eq-of-lt (a .1));
+    mul-add = λ a b c. same-number N (mul-add-mod N (a .0) (b .0) (c .0));
+  }
+
+  pub number-hom : Hom (Residue N) ℕ (residues N pos) (modular N) (number N)
+  unfolding residues
+  number-hom = record { zero = refl; one = refl; add = λ a b. refl; mul = λ a b. refl; neg = λ a. refl }
+
+-- ---- words
+
+pub words-pos : 0 < 2 ^ 64
+words-pos = omega arith
+
+pub words-ring : Ring (Residue (2 ^ 64)) (residues (2 ^ 64) words-pos)
+words-ring = residues-ring (2 ^ 64) words-pos
+
+pub words-hom : Hom (Residue (2 ^ 64)) ℕ (residues (2 ^ 64) words-pos) words (number (2 ^ 64))
+unfolding words
+words-hom = number-hom (2 ^ 64) words-pos
