@@ -1,0 +1,8 @@
+"""The reference program: document 01 in plain Python, written from that document alone.
+
+It shares nothing with the Rattle code. It makes the stored vectors and judges what the built programs print.
+
+    python3 -m reference < SHEET       run a sheet
+    python3 -m reference.vectors       write the stored vectors (--check: compare them)
+    python3 -m unittest discover -t . -s reference
+"""

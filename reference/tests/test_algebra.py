@@ -1,0 +1,228 @@
+"""Document 01's sections "Elements and their product" and "The count": cases, edges, and the two methods."""
+import random
+import unittest
+from math import factorial
+
+from reference import algebra as a
+from reference import permutations as p
+from reference.nested import Nested, blocks
+from reference.tests.support import PARAMETERS, random_element, refused
+
+
+def word_basis(m, word):
+    """T_w for the permutation of a word."""
+    return a.basis(p.of_word(m, word))
+
+
+class Cases(unittest.TestCase):
+    def test_marked_indices(self):
+        words = [], [1], [2], [1, 2], [2, 1], [1, 2, 1]
+        self.assertEqual([a.place(p.of_word(2, word)) for word in words], list(range(6)))
+
+    def test_marked_squares(self):
+        for m, q, word, square in (
+                (2, 2, [2, 1], [0, 0, 0, 2, 0, 1]), (1, 0, [1], [0, 2 ** 64 - 1]), (1, 1, [1], [1, 0])):
+            h = word_basis(m, word)
+            self.assertEqual(a.product(m, q, h, h), square)
+
+    def test_counts(self):
+        self.assertEqual([a.product_count(m, m) for m in range(7)], [1, 9, 118, 2152, 55840, 2027640, 99518160])
+        self.assertEqual(a.product_count(2, 1), 27)
+
+    def test_bounds(self):
+        for m in range(7):
+            self.assertLess(a.product_count(m, m), 4 * a.size(m) ** 2)
+            for l in range(m + 1):
+                self.assertLess(a.product_count(m, l), 4 * a.size(l) * a.size(m))
+
+    def test_places_are_a_bijection(self):
+        for m in range(6):
+            self.assertEqual([a.place(w) for w in a.permutations(m)], list(range(a.size(m))))
+
+
+class Definition(unittest.TestCase):
+    def test_formula_3_1(self):
+        for m in range(1, 5):
+            for i in range(1, m + 1):
+                for w in a.permutations(m):
+                    ws = p.product(w, p.generator(m, i))
+                    for q in PARAMETERS:
+                        expected = a.basis(ws)
+                        if p.length(ws) < p.length(w):
+                            expected = a.add(a.scale(q - 1, a.basis(w)), a.scale(q, a.basis(ws)))
+                        self.assertEqual(a.times_generator(m, q, a.basis(w), i), expected)
+
+    def test_product_adds_over_all_permutations_by_standard_words(self):
+        source = random.Random(2)
+        for m in range(4):
+            for q in PARAMETERS:
+                h, g = random_element(source, m), random_element(source, m)
+                expected = [0] * a.size(m)
+                for v, x in zip(a.permutations(m), g):
+                    expected = a.add(expected, a.scale(x, a.act(m, q, h, p.standard_word(p.tower(v)))))
+                self.assertEqual(a.product(m, q, h, g), expected)
+
+    def test_proposition_3_2(self):
+        source = random.Random(3)
+        for m in range(1, 5):
+            for q in PARAMETERS:
+                h = random_element(source, m)
+                h_ = blocks(h, factorial(m))
+                for j in range(1, m + 1):
+                    for l in range(1, j + 1):
+                        lines = []
+                        for k in range(m + 1):
+                            if k < m - j:
+                                lines += a.act(m - 1, q, h_[k], p.cycle(j, l))
+                            elif k < m - j + l:
+                                lines += a.scale(q, a.act(m - 1, q, h_[k + 1], p.cycle(j - 1, l - 1)))
+                            elif k == m - j + l:
+                                total = [0] * factorial(m)
+                                for i in range(1, l + 1):
+                                    total = a.add(total, a.act(m - 1, q, h_[m - j + i], p.cycle(j - 1, i - 1)))
+                                lines += a.add(h_[m - j], a.scale(q - 1, total))
+                            else:
+                                lines += a.act(m - 1, q, h_[k], p.cycle(j - 1, l))
+                        self.assertEqual(lines, a.act(m, q, h, p.cycle(j, l)))
+
+    def test_nested_method_and_its_count(self):
+        source = random.Random(4)
+        for m in range(5):
+            for q in PARAMETERS:
+                h = random_element(source, m)
+                for j in range(1, m + 1):
+                    for l in range(j + 1):
+                        nested = Nested(q)
+                        self.assertEqual(nested.action(m, h, j, l), a.act(m, q, h, p.cycle(j, l)))
+                        self.assertEqual(nested.count, a.action_count(m, j, l))
+                for l in range(m + 1):
+                    g, nested = random_element(source, l), Nested(q)
+                    whole = g + [0] * (a.size(m) - a.size(l))
+                    self.assertEqual(nested.product(m, h, l, g), a.product(m, q, h, whole))
+                    self.assertEqual(nested.count, a.product_count(m, l))
+
+
+class Laws(unittest.TestCase):
+    def test_associative(self):
+        source = random.Random(5)
+        for m in range(5):
+            for q in PARAMETERS:
+                h, g, k = (random_element(source, m) for _ in range(3))
+                left = a.product(m, q, a.product(m, q, h, g), k)
+                self.assertEqual(left, a.product(m, q, h, a.product(m, q, g, k)))
+
+    def test_linear_and_unit(self):
+        source = random.Random(6)
+        for m in range(4):
+            for q in PARAMETERS:
+                h, k, g = (random_element(source, m) for _ in range(3))
+                c = source.randrange(a.WORD)
+                left = a.product(m, q, a.add(h, a.scale(c, k)), g)
+                self.assertEqual(left, a.add(a.product(m, q, h, g), a.scale(c, a.product(m, q, k, g))))
+                right = a.product(m, q, g, a.add(h, a.scale(c, k)))
+                self.assertEqual(right, a.add(a.product(m, q, g, h), a.scale(c, a.product(m, q, g, k))))
+                self.assertEqual(a.product(m, q, a.unit(m), h), h)
+                self.assertEqual(a.product(m, q, h, a.unit(m)), h)
+
+    def test_relations(self):
+        source = random.Random(7)
+        for m in range(1, 5):
+            for q in PARAMETERS:
+                h = random_element(source, m)
+                for i in range(1, m + 1):
+                    square = a.add(a.scale(q - 1, a.act(m, q, h, [i])), a.scale(q, h))
+                    self.assertEqual(a.act(m, q, h, [i, i]), square)
+                    for j in range(1, m + 1):
+                        words = ([i, j, i], [j, i, j]) if abs(i - j) == 1 else ([i, j], [j, i])
+                        self.assertEqual(a.act(m, q, h, words[0]), a.act(m, q, h, words[1]))
+
+    def test_shortest_words_act_alike(self):
+        h = random_element(random.Random(8), 3)
+        for q in PARAMETERS:
+            for x, y in (([1, 2, 1, 3], [2, 1, 2, 3]), ([1, 2, 1, 3, 2, 1], [3, 2, 3, 1, 2, 3]), ([1, 3, 2], [3, 1, 2])):
+                self.assertEqual(p.of_word(3, x), p.of_word(3, y))
+                self.assertEqual(a.act(3, q, h, x), a.act(3, q, h, y))
+                self.assertEqual(a.act(3, q, h, x), a.product(3, q, h, word_basis(3, x)))
+
+    def test_pairing(self):
+        """The pairing of a with b is the coefficient of the unit in the product of a with b read through inverses."""
+        source = random.Random(9)
+        for m in range(4):
+            for q in PARAMETERS:
+                h, g = random_element(source, m), random_element(source, m)
+                turned = [g[a.place(p.inverse(w))] for w in a.permutations(m)]
+                self.assertEqual(a.pairing(m, q, h, g), a.product(m, q, h, turned)[0])
+
+
+class Calls(unittest.TestCase):
+    def test_results_and_counts(self):
+        result, scratch = [9] * 6, [9] * 50
+        h, g = [1, 2, 3, 4, 5, a.WORD - 1], [6, 5, 4, 3, 2, 1]
+        self.assertEqual(a.call_sum(2, h, g, result), 6)
+        self.assertEqual(result, [7, 7, 7, 7, 7, 0])
+        self.assertEqual(a.call_scale(2, 2 ** 63, h, result), 6)
+        self.assertEqual(result, [2 ** 63, 0, 2 ** 63, 0, 2 ** 63, 2 ** 63])
+        self.assertEqual(a.call_product(2, 3, h, g, result, scratch), 118)
+        self.assertEqual((result, scratch), (a.product(2, 3, h, g), [0] * 48 + [9] * 2))
+        self.assertEqual(a.call_act(2, 3, h, [1, 1, 2]), 27)
+        self.assertEqual(h, a.act(2, 3, [1, 2, 3, 4, 5, a.WORD - 1], [1, 1, 2]))
+
+    def test_rank_0(self):
+        h, result = [5], [9]
+        self.assertEqual(a.call_act(0, 3, h, []), 0)
+        self.assertEqual((a.call_product(0, 3, h, [7], result, [9] * 6), result), (1, [35]))
+
+    def test_rank_6(self):
+        size = a.size(6)
+        result, scratch = [9] * size, [9] * (12 * size)
+        h = random_element(random.Random(10), 6)
+        self.assertEqual(a.call_sum(6, h, h, result), size)
+        self.assertEqual(a.call_product(6, 3, h, a.unit(6), result, scratch), 99518160)
+        self.assertEqual((result, scratch), (h, [0] * (12 * size)))
+
+    def test_4096_letters(self):
+        h = [1, 0]
+        self.assertEqual(a.call_act(1, 1, h, [1] * 4096), 3 * 4096)
+        self.assertEqual(h, [1, 0])
+
+
+class Refusals(unittest.TestCase):
+    def test_1_rank(self):
+        for m in (7, 255):
+            with refused(self, 1, 0, h := [9]):
+                a.call_sum(m, [], [], h)
+            with refused(self, 1, 0, h):
+                a.call_scale(m, 0, [], h)
+            with refused(self, 1, 0, h):
+                a.call_act(m, 0, h, [0])
+            with refused(self, 1, 0, h):
+                a.call_product(m, 0, [], [], h, [])
+
+    def test_2_element(self):
+        for wrong in ([], [1], [1] * 3):
+            for place in range(3):
+                lists = [[1, 2], [3, 4], [9, 9]]
+                lists[place] = list(wrong)
+                with refused(self, 2, 0, *lists):
+                    a.call_sum(1, *lists)
+                with refused(self, 2, 0, *lists):
+                    a.call_product(1, 3, *lists, [])
+            with refused(self, 2, 0, wrong):
+                a.call_scale(1, 3, [1, 2], wrong)
+            with refused(self, 2, 0, result := [9, 9]):
+                a.call_scale(1, 3, wrong, result)
+            with refused(self, 2, 0, wrong):
+                a.call_act(1, 3, wrong, [0])
+
+    def test_3_scratch(self):
+        for m, short in ((0, 5), (1, 13), (2, 47)):
+            h = [1] * a.size(m)
+            with refused(self, 3, 0, result := [9] * a.size(m), scratch := [9] * short):
+                a.call_product(m, 3, h, h, result, scratch)
+
+    def test_4_word(self):
+        for word, place in (([0], 0), ([1, 3], 1), ([1, 2, 0, 9], 2), ([0] * 4097, 4096), ([1] * 4095 + [3], 4095)):
+            with refused(self, 4, place, h := [1] * 6):
+                a.call_act(2, 3, h, word)
+        with refused(self, 4, 0, h := [1]):
+            a.call_act(0, 3, h, [1])
