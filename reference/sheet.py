@@ -115,6 +115,15 @@ def run(sheet):
     return Run([x + [0] * (REGISTER_WORDS - len(x)) for x in registers], count, lines)
 
 
+def call_run(sheet):
+    """The library's runner: the number and place of a refusal, 0 where there is none, the registers and the count."""
+    try:
+        done = run(sheet)
+    except Refused as refused:
+        return refused.number, refused.place, [[0] * REGISTER_WORDS] * REGISTERS, 0
+    return 0, 0, done.registers, done.count
+
+
 def printed(sheet):
     """What the program prints for a sheet."""
     try:

@@ -53,9 +53,10 @@ class Program(unittest.TestCase):
 
 class Commands(unittest.TestCase):
     def test_example_registers(self):
-        run = s.run(EXAMPLE)
-        self.assertEqual(run.registers, [[3, 2] + [0] * 718] + [[0] * 720] * 3)
-        self.assertEqual(run.count, 6)
+        self.assertEqual(s.call_run(EXAMPLE), (0, 0, [[3, 2] + [0] * 718] + [[0] * 720] * 3, 6))
+
+    def test_refused_registers(self):
+        self.assertEqual(s.call_run(EXAMPLE[:-1]), (14, 20, [[0] * 720] * 4, 0))
 
     def test_show_of_zero_and_of_every_nonzero_coefficient(self):
         sheet = begin(2, 5) + put(1, 5, 2 ** 64 - 1) + put(1, 0, 7) + put(1, 3, 0) + bytes([0x40, 0, 0x40, 1]) + END
