@@ -1,10 +1,10 @@
 -- For every N ≥ 1 the residues modulo N are a commutative ring, and taking the number of a residue is a map of operations to modular N.
--- So it is for words, at N = 2^64.
+-- So it is for words, at N = 2^64. Rests on the kit's laws of numbers.
 use mathlib.Core.Path.{_≡_, refl, sym, ap, _∙_}
 use mathlib.Core.HLevel.{Σ-prop-path, prop→set, Σ-set}
-use Prim.Native.Nat.{ℕ, _+_, _-_, _*_, _/_, _%_, _^_, _≤_, _<_}
+use Prim.Native.Nat.{ℕ, _+_, _-_, _*_, _/_, _%_, _^_, _<_}
 use native.Mathlib.Bridge.{le-prop}
-use native.Mathlib.Nat.{ℕ-set, le-of-lt, mod-eq-of-lt, mod-add-mod, add-mod-mod, mod-self, add-assoc, add-comm, mul-comm, mul-assoc, mul-add, add-mul-mod-self-right, mod-add-div', zero-add, one-mul}
+use native.Mathlib.Nat.{ℕ-set, mod-lt, mod-eq-of-lt, mod-add-mod, add-mod-mod, mod-self, add-assoc, add-comm, mul-comm, mul-assoc, mul-add, add-mul-mod-self-right, mod-add-div', zero-add, one-mul}
 use native.Mathlib.Omega.{arith}
 use Rattle.ring.specs.Ring.{Ring, Hom}
 use Rattle.ring.specs.Modular.{modular, words, Residue, number, residues}
@@ -27,11 +27,11 @@ module _ (N : ℕ) where
   add-assoc-mod : (a b c : ℕ) → ((a + b) % N + c) % N ≡ (a + (b + c) % N) % N
   add-assoc-mod a b c = mod-add-mod (a + b) N c ∙ reduced (add-assoc a b c) ∙ sym (add-mod-mod a (b + c) N)
 
-  neg-add-mod : (a : ℕ) → a ≤ N → ((N - a) % N + a) % N ≡ 0
-  neg-add-mod a h = mod-add-mod (N - a) N a ∙ reduced back ∙ mod-self N
+  neg-add-mod : 0 < N → (a : ℕ) → ((N - a % N) % N + a) % N ≡ 0
+  neg-add-mod pos a = sym (add-mod-mod ((N - a % N) % N) a N) ∙ mod-add-mod (N - a % N) N (a % N) ∙ reduced back ∙ mod-self N
     where
-      back : N - a + a ≡ N
-      back = omega arith
+      back : N - a % N + a % N ≡ N
+      back = omega (arith, mod-lt a pos)
 
   mul-assoc-mod : (a b c : ℕ) → a * b % N * c % N ≡ a * (b * c % N) % N
   mul-assoc-mod a b c = mul-mod-left (a * b) c ∙ reduced (mul-assoc a b c) ∙ sym (mul-mod-right a (b * c))
@@ -55,7 +55,7 @@ module _ (N : ℕ) (pos : 0 < N) where
     add-assoc = λ a b c. same-number N (add-assoc-mod N (a .0) (b .0) (c .0));
     add-comm = λ a b. same-number N (reduced N (add-comm (a .0) (b .0)));
     zero-add = λ a. same-number N (reduced N (zero-add (a .0)) ∙ mod-eq-of-lt (a .1));
-    neg-add = λ a. same-number N (neg-add-mod N (a .0) (le-of-lt (a .1)));
+    neg-add = λ a. same-number N (neg-add-mod N pos (a .0));
     mul-assoc = λ a b c. same-number N (mul-assoc-mod N (a .0) (b .0) (c .0));
     mul-comm = λ a b. same-number N (reduced N (mul-comm (a .0) (b .0)));
     one-mul = λ a. same-number N (one-mul-mod N (a .0) ∙ mod-eq-of-lt (a .1));

@@ -15,7 +15,7 @@ modular N = record {
   one = 1 % N;
   add = λ a b. (a + b) % N;
   mul = λ a b. a * b % N;
-  neg = λ a. (N - a) % N;
+  neg = λ a. (N - a % N) % N;
 }
 
 unfoldable pub words : Ops ℕ
@@ -35,5 +35,5 @@ module _ (N : ℕ) (pos : 0 < N) where
     one = (modular N .one, mod-lt 1 pos);
     add = λ a b. (modular N .add (a .0) (b .0), mod-lt (a .0 + b .0) pos);
     mul = λ a b. (modular N .mul (a .0) (b .0), mod-lt (a .0 * b .0) pos);
-    neg = λ a. (modular N .neg (a .0), mod-lt (N - a .0) pos);
+    neg = λ a. (modular N .neg (a .0), mod-lt (N - a .0 % N) pos);
   }
