@@ -1,4 +1,4 @@
--- Linear combinations of functions in a ring. Two of them may be taken in either order.
+-- Linear combinations of functions in a ring. Two of them may be taken in either order. Rests on Sum.
 --
 --   comb A o s a G w    the sum over v in s of a(v) G(v)(w)
 use mathlib.Core.Path.{_≡_, sym, ap, _∙_, fun-ext}

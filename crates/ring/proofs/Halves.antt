@@ -1,4 +1,4 @@
--- The product of two words modulo 2^64 by halves of 32 bits.
+-- The product of two words modulo 2^64 by halves of 32 bits. Rests on the kit's laws of numbers.
 use mathlib.Core.Path.{_≡_, refl, sym, _∙_}
 use Prim.Native.Nat.{ℕ, _+_, _*_, _/_, _%_, _^_, _<_}
 use native.Mathlib.Nat.{le-of-lt, lt-of-le-of-lt, mul-le-mul-left, add-assoc, add-comm, add-left-comm, mul-assoc, mul-comm, mul-left-comm, mul-add, add-mul}

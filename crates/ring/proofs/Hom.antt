@@ -1,4 +1,4 @@
--- A map of operations takes a sum over a list to the sum of the images.
+-- A map of operations takes a sum over a list to the sum of the images. Rests on the definitions alone.
 use mathlib.Core.Path.{_≡_, ap, _∙_}
 use mathlib.Core.List.{List, [], _∷_}
 use Rattle.ring.specs.Ring.{Ops, Hom}

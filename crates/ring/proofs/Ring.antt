@@ -1,4 +1,4 @@
--- What follows at once from the laws of a commutative ring.
+-- What follows at once from the laws of a commutative ring. Rests on these alone.
 use mathlib.Core.Path.{_≡_, sym, ap, ap₂, _∙_}
 use Rattle.ring.specs.Ring.{Ops, Ring}
 

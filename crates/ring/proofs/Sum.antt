@@ -1,5 +1,5 @@
 -- The laws of sums over a list. For any operations: equal terms, and a mapped list. In a ring: a joined list; sums of zeros, of sums and of
--- multiples; two sums in either order.
+-- multiples; two sums in either order. Rests on Ring.
 use mathlib.Core.Path.{_≡_, refl, sym, ap, ap₂, _∙_}
 use mathlib.Core.List.{List, [], _∷_, _++_, map, List·Memᴰ, List·Memᴰ·head, List·Memᴰ·tail}
 use Rattle.ring.specs.Ring.{Ops, Ring}

@@ -11,9 +11,9 @@ pub fn add(a: u64, b: u64) -> u64
     std::num::wrapping_add_u64(a, b)
 }
 
-// The product of two words, modulo 2^64, by halves of 32 bits: a product of two halves fits a word, and that of the two
-// high halves is a multiple of 2^64.
-// Example: 2^32 + 3 and 2^32 + 5 give 8 * 2^32 + 15.
+// The product of two words, modulo 2^64, by halves of 32 bits. A product of two halves fits a word; that of the two high
+// halves counts 2^64 times, and so falls away.
+// Example: 2^32 + 1 and 2^33 + 1 give 3 * 2^32 + 1.
 pub fn mul(a: u64, b: u64) -> u64
     ensures { λ r. ⌜ r ≡ words .mul a b ⌝ }
 {

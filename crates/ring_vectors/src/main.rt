@@ -12,6 +12,7 @@ fn with_byte(word: u64, byte: u8) -> u64 {
     word % 0x100_0000_0000_0000 * 256 + byte as u64
 }
 
+// The word of eight bytes, the lowest first.
 fn word_of(bytes: &[u8; 8]) -> u64 {
     let mut word = 0;
     for i in 0..8 {
