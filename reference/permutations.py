@@ -136,13 +136,14 @@ def call_length(t):
 
 
 def call_word(t, buffer):
-    """Writes the standard word and nothing after it."""
+    """Writes the standard word and nothing after it; gives the number of its letters."""
     check_tower_size(t)
     check_tower(t)
     word = standard_word(t)
     if len(buffer) < len(word):
         raise Refused(8)
     buffer[:len(word)] = word
+    return len(word)
 
 
 def call_descents(t):

@@ -99,7 +99,7 @@ class Calls(unittest.TestCase):
     def test_word_writes_its_letters_and_nothing_after_them(self):
         for room in (2, 3, 60):
             buffer = [9] * room
-            p.call_word([0, 2], buffer)
+            self.assertEqual(p.call_word([0, 2], buffer), 2)
             self.assertEqual(buffer, [2, 1] + [9] * (room - 2))
 
     def test_descent_mask(self):
