@@ -1,0 +1,67 @@
+-- The tests `same` and `less` by cases: what holds of the numbers, with what the test then is. Rests on nothing here.
+use mathlib.Core.Path.{_≡_, refl, subst}
+use mathlib.Core.Logic.{_≢_}
+use mathlib.Core.Bool.{Bool, true, false}
+use Prim.Native.Nat.{ℕ, _≤_, _<_}
+use native.Mathlib.Omega.{arith}
+use mir.Val.{boolByte}
+use lib.Dec.{T, eqb, ltb, eqb→eq, eqb-refl, ltb→lt, nltb→le}
+use Rattle.perms.specs.Lists.{same, less, bit}
+
+pub data SameView (x a : ℕ) : Type 0 where
+  is : x ≡ a → same x a ≡ true → SameView x a
+  isnt : x ≢ a → same x a ≡ false → SameView x a
+
+pub data LessView (x a : ℕ) : Type 0 where
+  lt : x < a → less x a ≡ true → LessView x a
+  ge : a ≤ x → less x a ≡ false → LessView x a
+
+pub same? : (x a : ℕ) → SameView x a
+unfolding same
+same? x a = go (eqb x a) refl
+  where
+    go : (b : Bool) → eqb x a ≡ b → SameView x a
+    go true e = is (eqb→eq x a (rw e tt)) e
+    go false e = isnt (λ p. subst T e (rw p (eqb-refl a))) e
+
+pub less? : (x a : ℕ) → LessView x a
+unfolding less
+less? x a = go (ltb x a) refl
+  where
+    go : (b : Bool) → ltb x a ≡ b → LessView x a
+    go true e = lt (ltb→lt x a (rw e tt)) e
+    go false e = ge (nltb→le x a (rw e tt)) e
+
+-- the tests at facts
+pub same-yes : {x a : ℕ} → x ≡ a → same x a ≡ true
+same-yes {x} {a} p = go (same? x a)
+  where
+    go : SameView x a → same x a ≡ true
+    go (is q e) = e
+    go (isnt n e) = absurd (n p)
+
+pub same-no : {x a : ℕ} → x ≢ a → same x a ≡ false
+same-no {x} {a} n = go (same? x a)
+  where
+    go : SameView x a → same x a ≡ false
+    go (is q e) = absurd (n q)
+    go (isnt m e) = e
+
+pub less-yes : {x a : ℕ} → x < a → less x a ≡ true
+less-yes {x} {a} p = go (less? x a)
+  where
+    go : LessView x a → less x a ≡ true
+    go (lt q e) = e
+    go (ge n e) = absurd (omega arith)
+
+pub less-no : {x a : ℕ} → a ≤ x → less x a ≡ false
+less-no {x} {a} p = go (less? x a)
+  where
+    go : LessView x a → less x a ≡ false
+    go (lt q e) = absurd (omega arith)
+    go (ge n e) = e
+
+-- a test cast to a number
+pub byte-bit : (b : Bool) → boolByte b ≡ bit b
+byte-bit true = refl
+byte-bit false = refl

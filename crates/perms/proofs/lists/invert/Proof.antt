@@ -1,0 +1,26 @@
+-- The image list, then the inverse, then its tower.
+use mathlib.Core.Path.{sym, ap, _∙_}
+use native.Mathlib.Omega.{arith}
+use borrow.Author.Needs.{needs}
+use Rattle.perms.specs.Permutation.{inverse}
+use Rattle.perms.specs.Tower.{towerOf}
+use Rattle.perms.proofs.ImagesOf.{perm-made}
+use Rattle.perms.proofs.lists.invert.Statement.{statement}
+use Rattle.perms.proofs.lists.invert.Tie as tie
+
+fill-inverse-requires : tie.Need-fill-inverse-requires
+fill-inverse-requires c κs =
+    let start = c .before .before .before .before .before .before .before .before .before .before in
+    let made = perm-made (start .pre .4) (c .before .before .before .before .fill-images .ensures) in
+    (start .pre .1 ∙ sym (made .0), omega (arith, made .0, start .pre .3), made .1)
+
+returns : tie.Need-returns
+returns c =
+    c .before .before .fill-tower .ensures
+    ∙ ap towerOf (c .before .before .before .before .before .before .before .fill-inverse .ensures)
+    ∙ ap (λ w. towerOf (inverse w)) (c .before .before .before .before .before .before .before .before .before .before .before .before .fill-images .ensures)
+
+pub invert-spec : {M : Type 1} → statement M
+invert-spec =
+    tie.close
+    (tie.spec (λ c κs. search needs) fill-inverse-requires (λ c κs. search needs) (λ c. search needs) (λ c. search needs) (λ c. search needs) returns)
