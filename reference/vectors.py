@@ -5,9 +5,12 @@
 """
 import random
 import sys
+from itertools import chain
 from pathlib import Path
 
+from reference import permutations as p
 from reference.algebra import WORD
+from reference.refusals import Refused
 
 ROOT = Path(__file__).resolve().parent.parent
 
@@ -25,11 +28,194 @@ def ring_vectors():
     yield 'crates/ring_vectors/stdout', ''.join(f'{(a + b) % WORD} {a * b % WORD}\n' for a, b in pairs).encode()
 
 
+# ---- permutations and towers
+#
+# A vector is a call, its lists, and the size of the lent buffer, None for a call without one.
+
+TOWER_OF, IMAGES_OF, INVERSE, PRODUCT, LENGTH, STANDARD_WORD, DESCENTS = range(1, 8)
+ON_ONE_TOWER = IMAGES_OF, INVERSE, LENGTH, STANDARD_WORD, DESCENTS
+LENT = 170  # each byte of the buffer before the call
+
+EXAMPLE = [8, 4, 1, 6, 2, 7, 5, 10, 9, 3]
+IMAGES = [3, 1, 6, 2, 5, 4]
+TOWER, OTHER_TOWER = [0, 2, 1, 4, 0, 3], [1, 0, 3, 2, 5, 1]
+
+
+CALLS = {TOWER_OF: p.call_tower, IMAGES_OF: p.call_images, INVERSE: p.call_inverse, PRODUCT: p.call_product,
+         LENGTH: p.call_length, STANDARD_WORD: p.call_word, DESCENTS: p.call_descents}
+
+
+def record(call, lists, room):
+    """The call's number, each list after its size, and the buffer's size in two bytes, lowest first."""
+    sized = b''.join(bytes([len(a), *a]) for a in lists)
+    return bytes([call]) + sized + (b'' if room is None else room.to_bytes(2, 'little'))
+
+
+def line(call, lists, room):
+    """A and what the call answers, or E with the number and the place; then the buffer."""
+    buffer = [LENT] * (room or 0)
+    try:
+        answer = CALLS[call](*lists) if room is None else CALLS[call](*lists, buffer)
+        fields = ['A', *(answer if isinstance(answer, tuple) else () if answer is None else (answer,))]
+    except Refused as refusal:
+        fields = ['E', refusal.number, refusal.place]
+    return ' '.join(map(str, fields + buffer)) + '\n'
+
+
+def vector(call, *lists, more=0):
+    """The call with a buffer that fits its result, or has that many bytes more."""
+    first = lists[0]
+    result = {TOWER_OF: len(first) - 1, IMAGES_OF: len(first) + 1, INVERSE: len(first), PRODUCT: len(first),
+              STANDARD_WORD: sum(first)}
+    return call, lists, max(0, result[call] + more) if call in result else None
+
+
+def on_tower(t, u, more=0):
+    """Every call on the tower t, and its product with u."""
+    for call in ON_ONE_TOWER:
+        yield vector(call, t, more=more)
+    yield vector(PRODUCT, t, u, more=more)
+
+
+def on_permutation(w, v):
+    """Every call on w, its product with v, and its word with more room than it takes."""
+    t = p.tower(w)
+    yield vector(TOWER_OF, w)
+    for call in (IMAGES_OF, INVERSE, LENGTH, DESCENTS):
+        yield vector(call, t)
+    yield vector(PRODUCT, t, p.tower(v))
+    yield vector(STANDARD_WORD, t, more=3)
+
+
+def changed(a, *changes):
+    """The list with other values at some indexes."""
+    a = list(a)
+    for index, value in changes:
+        a[index] = value
+    return a
+
+
+def document_cases():
+    """Document 01's cases: images 2 3 1; and the images, the tower and the inverse of its longer example."""
+    yield from on_permutation([2, 3, 1], [1, 3, 2])
+    yield from on_permutation(EXAMPLE, p.inverse(EXAMPLE))
+    yield from on_permutation(p.inverse(EXAMPLE), EXAMPLE)
+
+
+def sizes():
+    """Lists at the ends of the allowed sizes and past them; two towers of unequal size."""
+    for n in (0, 1, 64, 65, 255):
+        yield vector(TOWER_OF, list(range(n, 0, -1)))
+    for n in (0, 1, 63, 64, 255):
+        t = [j % 3 for j in range(1, n + 1)]
+        yield from on_tower(t, t)
+    for n, k in ((0, 1), (1, 0), (5, 6), (6, 5), (63, 0), (62, 63), (63, 62), (63, 64), (64, 63), (0, 64), (64, 0)):
+        yield vector(PRODUCT, [0] * n, [0] * k)
+
+
+def bad_images():
+    """Images that are 0, too large or already seen, at the first, a middle and the last index; two faults."""
+    for index in (0, 2, 5):
+        for image in (0, 7, 255):
+            yield vector(TOWER_OF, changed(IMAGES, (index, image)))
+    for index, seen in ((1, 0), (2, 0), (3, 2), (5, 0), (5, 4)):
+        yield vector(TOWER_OF, changed(IMAGES, (index, IMAGES[seen])))
+    # the image at the lower index is not yet seen there
+    for index, later in ((0, 1), (0, 5), (2, 4)):
+        yield vector(TOWER_OF, changed(IMAGES, (index, IMAGES[later])))
+    for faults in (((1, 0), (4, 9)), ((1, 9), (4, 0)), ((1, 3), (4, 0)), ((3, 7), (5, 3)), ((0, 0), (5, 0)),
+                   ((2, 1), (3, 1))):
+        yield vector(TOWER_OF, changed(IMAGES, *faults))
+    for images in ([0], [2], [255], [1, 1], [2, 2], [2, 3], [0, 0]):
+        yield vector(TOWER_OF, images)
+
+
+def bad_entries():
+    """Entries above their j at the first, a middle and the last index, and two faults; in either tower of a product."""
+    faults = [((i, i + 2),) for i in (0, 3, 5)] + [((i, 255),) for i in (0, 3, 5)]
+    faults += [((0, 2), (5, 7)), ((1, 3), (2, 255)), ((3, 255), (4, 6))]
+    for fault in faults:
+        bad = changed(TOWER, *fault)
+        yield from on_tower(bad, OTHER_TOWER)
+        yield vector(PRODUCT, OTHER_TOWER, bad)
+    for t in ([2], [0, 3], [2, 3]):
+        yield from on_tower(t, [0] * len(t))
+    # of two bad towers the first is judged first
+    for first, second in ((0, 5), (5, 0), (3, 3), (2, 4), (4, 2)):
+        yield vector(PRODUCT, changed(TOWER, (first, first + 2)), changed(OTHER_TOWER, (second, second + 2)))
+
+
+def buffers():
+    """Buffers one byte short, exact, one byte longer, much longer and empty; also with the smallest and largest lists."""
+    largest = [j % 3 for j in range(1, 64)]
+    for more in (-1, 0, 1, 200, -100):
+        yield vector(TOWER_OF, IMAGES, more=more)
+        yield from on_tower(TOWER, OTHER_TOWER, more=more)
+    for more in (-1, 0, 1):
+        yield vector(TOWER_OF, [1], more=more)
+        yield from on_tower([], [], more=more)
+        yield vector(TOWER_OF, p.of_tower(largest), more=more)
+        yield from on_tower(largest, largest[::-1], more=more)
+
+
+def order_of_checks():
+    """Two faults or more that different checks find: the size, then the first bad image or entry, then the buffer."""
+    bad, other = changed(TOWER, (4, 6)), changed(OTHER_TOWER, (1, 3))
+    for more in (-1, 0, 1):
+        yield vector(TOWER_OF, list(range(65)), more=more)
+        yield vector(TOWER_OF, changed(IMAGES, (5, 0)), more=more)
+        yield from on_tower([1] * 63 + [65], [0] * 64, more=more)
+        yield from on_tower([2] * 64, [2] * 64, more=more)
+        yield from on_tower(bad, OTHER_TOWER, more=more)
+        # faults of the second tower, and of both
+        yield vector(PRODUCT, TOWER, other, more=more)
+        yield vector(PRODUCT, bad, other, more=more)
+        # unequal sizes and bad entries
+        for first, second in ((bad, other[:5]), (bad, OTHER_TOWER[:5]), (TOWER[:5], other), (bad, [0] * 64),
+                              ([0] * 64, other)):
+            yield vector(PRODUCT, first, second, more=more)
+    # no image and a buffer; an entry too large, of which no word fits the buffer
+    yield TOWER_OF, ([],), 1
+    yield STANDARD_WORD, (changed(TOWER, (5, 255)),), 0
+
+
+def random_permutation(source, m):
+    return p.of_tower([source.randrange(j + 1) for j in range(1, m + 1)])
+
+
+def every_rank(source):
+    """The identity, the reversal and random permutations of every rank, more of the small ranks."""
+    for m in range(64):
+        firsts = [p.identity(m), p.identity(m)[::-1]]
+        firsts += [random_permutation(source, m) for _ in range(4 if m < 12 else 1)]
+        for w in firsts:
+            yield from on_permutation(w, random_permutation(source, m))
+
+
+def random_bytes(source):
+    """Short lists of small bytes, some of which are right, with buffers that mostly fit."""
+    for _ in range(150):
+        size = source.randrange(6)
+        images, t, u = ([source.randrange(size + 2) for _ in range(size)] for _ in range(3))
+        more = (0, 0, 0, -1, 1)[source.randrange(5)]
+        yield vector(TOWER_OF, images, more=more)
+        yield from on_tower(t, u, more=more)
+
+
+def perms_vectors():
+    """Calls of the seven functions on permutations and towers, and their whole outcomes."""
+    source = random.Random(0)
+    vectors = [*document_cases(), *sizes(), *bad_images(), *bad_entries(), *buffers(), *order_of_checks(),
+               *every_rank(source), *random_bytes(source)]
+    yield 'crates/perms_vectors/stdin', b''.join(record(*v) for v in vectors)
+    yield 'crates/perms_vectors/stdout', ''.join(line(*v) for v in vectors).encode()
+
+
 def main(arguments):
     if arguments not in ([], ['--check']):
         sys.exit(__doc__)
     stale = []
-    for name, contents in ring_vectors():
+    for name, contents in chain(ring_vectors(), perms_vectors()):
         path = ROOT / name
         if not arguments:
             path.write_bytes(contents)
