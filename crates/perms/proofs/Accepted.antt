@@ -15,13 +15,8 @@ use Rattle.perms.specs.Laws.{Checks}
 use Rattle.perms.proofs.Test.{same-no, less-no}
 use Rattle.perms.proofs.Perm.{Dist, dist-tail, perm-dist}
 use Rattle.perms.proofs.Image.{perm-image, dist-head}
+use Rattle.perms.proofs.First.{first-past}
 use Rattle.perms.proofs.Verdicts.{images-sized, towers-sized, images-accepted, tower-accepted, towers-accepted}
-
--- a search that finds nothing
-first-past : (p : ℕ → Bool) (a n : ℕ) → ((i : ℕ) → a ≤ i → i < a + n → p i ≡ false) → first p a n ≡ a + n
-unfolding first
-first-past p a zero h = omega arith
-first-past p a (suc n) h = rw (h a (omega arith) (omega arith)) (first-past p (suc a) n (λ i k l. h i (omega arith) (omega arith)) ∙ omega arith)
 
 -- no image of a permutation stands before itself
 count-take : (w : List ℕ) → Dist w → (i : ℕ) → i < length w → count (getD w i 0) (take i w) ≡ 0

@@ -2,8 +2,8 @@
 -- and on Products for s_i w.
 use mathlib.Core.Path.{_≡_, refl, sym, ap, ap₂, _∙_}
 use mathlib.Core.Logic.{_↔_}
-use mathlib.Core.Bool.{true}
-use mathlib.Core.List.{List, [], _∷_, _++_}
+use mathlib.Core.Bool.{Bool, true}
+use mathlib.Core.List.{List, [], _∷_}
 use Prim.Native.Nat.{ℕ, zero, suc, pred, _+_, _≤_, _<_}
 use native.Mathlib.Nat.{le-of-suc-le-suc}
 use native.Mathlib.Omega.{arith}
@@ -13,13 +13,22 @@ use Rattle.perms.specs.Lists.{less, bit, tally}
 use Rattle.perms.specs.Permutation.{Perm, below, len, Letter}
 use Rattle.perms.specs.Tower.{above, entry, towerOf, Tower, imagesOf, descent}
 use Rattle.perms.specs.Laws.{at}
-use Rattle.perms.proofs.Test.{LessView, lt, ge, less?, less-yes, less-no}
-use Rattle.perms.proofs.Perm.{swapAt, lft, tally-swapAt}
+use Rattle.perms.proofs.Test.{LessView, lt, ge, less?, less-yes, less-no, less-true}
+use Rattle.perms.proofs.Tally.{tally-append, tally-mono}
+use Rattle.perms.proofs.Perm.{swapAt, lft}
 use Rattle.perms.proofs.Products.{generator-product}
 use Rattle.perms.proofs.Tower.{getD-tower}
 use Rattle.perms.proofs.ImagesOf.{perm-is, back-and-there}
 
 -- ---- two neighbours that change places
+
+tally-swapAt : (t : ℕ → Bool) (p : ℕ) (w : List ℕ) → tally t (swapAt p w) ≡ tally t w
+unfolding tally
+tally-swapAt t zero [] = refl
+tally-swapAt t zero (x ∷ []) = refl
+tally-swapAt t zero (x ∷ y ∷ w) = omega arith
+tally-swapAt t (suc p) [] = refl
+tally-swapAt t (suc p) (x ∷ w) = ap (λ n. bit (t x) + n) (tally-swapAt t p w)
 
 -- one pair more falls if they rise, one less if they fall
 len-swapAt : (p : ℕ) (w : List ℕ) → suc p < length w
@@ -47,21 +56,9 @@ less-swapAt p w h = go (less? (getD w (suc p) 0) (getD w p 0)) (less? (getD w p 
 
 -- ---- two neighbouring entries
 
-above-append : (x : ℕ) (u v : List ℕ) → above x (u ++ v) ≡ above x u + above x v
-unfolding above tally
-above-append x [] v = omega arith
-above-append x (y ∷ u) v = omega (arith, above-append x u v)
-
 above-mono : (x y : ℕ) (w : List ℕ) → x ≤ y → above y w ≤ above x w
-unfolding above tally
-above-mono x y [] h = omega arith
-above-mono x y (z ∷ w) h = go (above-mono x y w h) (less? y z) (less? x z)
-  where
-    go : above y w ≤ above x w → LessView y z → LessView x z → bit (less y z) + above y w ≤ bit (less x z) + above x w
-    go ih (lt a e) (lt b f) = rw (e, f) (omega arith)
-    go ih (lt a e) (ge b f) = absurd (omega arith)
-    go ih (ge a e) (lt b f) = rw (e, f) (omega arith)
-    go ih (ge a e) (ge b f) = rw (e, f) (omega arith)
+unfolding above
+above-mono x y w h = tally-mono (λ z. less y z) (λ z. less x z) (λ z e. less-yes (omega (arith, less-true y z e))) w
 
 -- an entry rises just where the images fall
 less-entry : (p : ℕ) (w : List ℕ) → suc p < length w → less (entry p w) (entry (suc p) w) ≡ less (getD w (suc p) 0) (getD w p 0)
@@ -75,7 +72,7 @@ less-entry p w h = go (less? y x)
     y = getD w (suc p) 0
 
     last : above y (take (suc p) w) ≡ above y (take p w) + bit (less y x)
-    last = ap (above y) (take-suc w p 0 (omega arith)) ∙ omega (arith, above-append y (take p w) (x ∷ []))
+    last = ap (above y) (take-suc w p 0 (omega arith)) ∙ omega (arith, tally-append (λ z. less y z) (take p w) (x ∷ []))
 
     go : LessView y x → less (above x (take p w)) (above y (take (suc p) w)) ≡ less y x
     go (lt a e) = less-yes (omega (arith, rw e at last, above-mono y x (take p w) (omega arith))) ∙ sym e

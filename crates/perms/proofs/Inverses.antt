@@ -1,40 +1,17 @@
 -- The inverse at an index is the point whose image is there; it is the only list that holds each point at the index of its image. Rests on Image
 -- and Products.
-use mathlib.Core.Path.{_≡_, refl, sym, ap, _∙_}
-use mathlib.Core.Bool.{Bool, true, false, cond}
+use mathlib.Core.Path.{_≡_, sym, ap, _∙_}
 use mathlib.Core.List.{List}
-use Prim.Native.Nat.{ℕ, zero, suc, pred, _+_, _≤_, _<_}
+use Prim.Native.Nat.{ℕ, suc, pred, _≤_, _<_}
 use native.Mathlib.Omega.{arith}
-use lib.Dec.{eqb→eq}
 use lib.ListN.{length, getD, length-map}
 use lib.Seq.{ext-getD}
-use Rattle.perms.specs.Lists.{same, bit, range, first}
+use Rattle.perms.specs.Lists.{same, range, first}
 use Rattle.perms.specs.Permutation.{Perm, image, inverse}
-use Rattle.perms.proofs.Test.{SameView, is, isnt, same?, same-yes}
-use Rattle.perms.proofs.Range.{length-range, getD-range}
+use Rattle.perms.proofs.Test.{same-yes, same-true}
+use Rattle.perms.proofs.First.{first-holds}
+use Rattle.perms.proofs.Range.{length-range, getD-range, getD-map}
 use Rattle.perms.proofs.Image.{perm-image, At, perm-at, perm-distinct}
-use Rattle.perms.proofs.Products.{getD-map}
-
-same-is : (x a : ℕ) → same x a ≡ true → x ≡ a
-unfolding same
-same-is x a e = eqb→eq x a (rw e tt)
-
-first-holds : (p : ℕ → Bool) (a n k : ℕ) → a ≤ k → k < a + n → p k ≡ true → (p (first p a n) ≡ true) × (a ≤ first p a n) × (first p a n < a + n)
-unfolding first
-first-holds p a zero k l h e = absurd (omega arith)
-first-holds p a (suc n) k l h e = go (first-holds p (suc a) n k) (p a) refl
-  where
-    r : ℕ
-    r = first p (suc a) n
-
-    go : (a < k → k < suc a + n → p k ≡ true → (p r ≡ true) × (a < r) × (r < suc a + n)) → (b : Bool) → p a ≡ b
-        → (p (cond b a r) ≡ true) × (a ≤ cond b a r) × (cond b a r < a + suc n)
-    go ih true f = (f, omega arith, omega arith)
-    go ih false f = let q = ih (omega (arith, later (same? a k))) (omega arith) e in (q .0, omega (arith, q .1), omega (arith, q .2))
-      where
-        later : SameView a k → a < k
-        later (is s g) = absurd (omega (arith, ap bit (sym f ∙ ap p s ∙ e)))
-        later (isnt s g) = omega arith
 
 pub length-inverse : (w : List ℕ) → length (inverse w) ≡ length w
 unfolding inverse
@@ -57,7 +34,7 @@ image-inverse w c i h = rw at-i (go (perm-at w c (suc i) (omega arith) (omega (a
     go : At (suc i) w → (image w (find (suc i)) ≡ suc i) × (1 ≤ find (suc i)) × (find (suc i) ≤ n)
     go r =
         let q = first-holds (λ p. same (image w p) (suc i)) 1 n (suc (r .index)) (omega arith) (omega arith) (same-yes (r .there)) in
-        (same-is _ _ (q .0), q .1, omega (arith, q .2))
+        (same-true _ _ (q .0), q .1, omega (arith, q .2))
 
 pub inverse-at : {m : ℕ} (w : List ℕ) → Perm m w → (i : ℕ) → i < length w → getD (inverse w) (pred (getD w i 0)) 0 ≡ suc i
 inverse-at w c i h =

@@ -1,4 +1,6 @@
 pub mod Test
+pub mod First
+pub mod Tally
 pub mod Swap
 pub mod Perm
 pub mod Range
@@ -22,7 +24,6 @@ pub mod Descent
 pub mod Towers
 pub mod Mask
 pub mod Prefix
-pub mod First
 pub mod Fill
 pub mod Scatter
 pub mod Room

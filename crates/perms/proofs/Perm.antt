@@ -1,15 +1,15 @@
--- A generator on the right swaps two values of an image list, on the left two positions; the two actions commute, undo themselves and keep
--- permutations. No value stands twice in a permutation. Rests on Swap.
-use mathlib.Core.Path.{_≡_, refl, ap, ap₂, _∙_}
-use mathlib.Core.Bool.{Bool}
+-- A generator on the right swaps two values of an image list, on the left two positions; on the right it keeps permutations. No value stands
+-- twice in a permutation. Rests on Swap and Tally.
+use mathlib.Core.Path.{_≡_, refl, ap, _∙_}
 use mathlib.Core.List.{List, [], _∷_, map}
 use Prim.Native.Nat.{ℕ, zero, suc, pred, _+_, _≤_}
 use native.Mathlib.Omega.{arith}
 use lib.ListN.{length, length-map}
-use Rattle.perms.specs.Lists.{same, bit, count, tally}
+use Rattle.perms.specs.Lists.{same, count, tally}
 use Rattle.perms.specs.Permutation.{Perm, Letter, swap}
 use Rattle.perms.proofs.Test.{LessView, lt, ge, less?}
-use Rattle.perms.proofs.Swap.{swap-swap, same-swap, swap-low, swap-high, swap-off}
+use Rattle.perms.proofs.Tally.{tally-map}
+use Rattle.perms.proofs.Swap.{same-swap, swap-low, swap-high, swap-off}
 
 -- ---- the two actions
 
@@ -34,52 +34,9 @@ swapAt (suc p) (x ∷ w) = x ∷ swapAt p w
 unfoldable pub lft : ℕ → List ℕ → List ℕ
 lft i w = swapAt (pred i) w
 
-pub rgt-rgt : (i : ℕ) (w : List ℕ) → rgt i (rgt i w) ≡ w
-unfolding rgt
-rgt-rgt i [] = refl
-rgt-rgt i (x ∷ w) = ap₂ {C = List ℕ} (λ a b. a ∷ b) (swap-swap i x) (rgt-rgt i w)
-
-swapAt-swapAt : (p : ℕ) (w : List ℕ) → swapAt p (swapAt p w) ≡ w
-swapAt-swapAt zero [] = refl
-swapAt-swapAt zero (x ∷ []) = refl
-swapAt-swapAt zero (x ∷ y ∷ w) = refl
-swapAt-swapAt (suc p) [] = refl
-swapAt-swapAt (suc p) (x ∷ w) = ap {B = List ℕ} (λ r. x ∷ r) (swapAt-swapAt p w)
-
-pub lft-lft : (i : ℕ) (w : List ℕ) → lft i (lft i w) ≡ w
-unfolding lft
-lft-lft i w = swapAt-swapAt (pred i) w
-
-swapAt-map : (f : ℕ → ℕ) (p : ℕ) (w : List ℕ) → swapAt p (map f w) ≡ map f (swapAt p w)
-swapAt-map f zero [] = refl
-swapAt-map f zero (x ∷ []) = refl
-swapAt-map f zero (x ∷ y ∷ w) = refl
-swapAt-map f (suc p) [] = refl
-swapAt-map f (suc p) (x ∷ w) = ap {B = List ℕ} (λ r. f x ∷ r) (swapAt-map f p w)
-
--- the two actions commute
-pub lft-rgt : (i j : ℕ) (w : List ℕ) → lft i (rgt j w) ≡ rgt j (lft i w)
-unfolding lft rgt
-lft-rgt i j w = swapAt-map (swap j) (pred i) w
-
--- ---- how often a value stands in a list
-
-pub tally-swapAt : (t : ℕ → Bool) (p : ℕ) (w : List ℕ) → tally t (swapAt p w) ≡ tally t w
-unfolding tally
-tally-swapAt t zero [] = refl
-tally-swapAt t zero (x ∷ []) = refl
-tally-swapAt t zero (x ∷ y ∷ w) = omega arith
-tally-swapAt t (suc p) [] = refl
-tally-swapAt t (suc p) (x ∷ w) = ap (λ n. bit (t x) + n) (tally-swapAt t p w)
-
-count-swapAt : (v p : ℕ) (w : List ℕ) → count v (swapAt p w) ≡ count v w
-unfolding count
-count-swapAt v p w = tally-swapAt (λ x. same x v) p w
-
 count-rgt : (i v : ℕ) (w : List ℕ) → count v (rgt i w) ≡ count (swap i v) w
-unfolding count rgt tally
-count-rgt i v [] = refl
-count-rgt i v (x ∷ w) = ap₂ (λ a b. bit a + b) (same-swap i x v) (count-rgt i v w)
+unfolding count rgt
+count-rgt i v w = tally-map (λ x. same x v) (λ x. same x (swap i v)) (swap i) (λ x. same-swap i x v) w
 
 pub swapAt-length : (p : ℕ) (w : List ℕ) → length (swapAt p w) ≡ length w
 swapAt-length zero [] = refl
@@ -97,15 +54,6 @@ perm-rgt {m} {i} {w} l c = record {
   once = λ v a b. count-rgt i v w ∙ c .once (swap i v) (swap-low v (l .low) a) (swap-high v (l .high) b);
   none = λ v a. count-rgt i v w ∙ ap (λ x. count x w) (swap-off i v (omega arith) (omega arith)) ∙ c .none v a;
   zeroth = count-rgt i 0 w ∙ ap (λ x. count x w) (swap-off i 0 (omega arith) (omega arith)) ∙ c .zeroth;
-}
-
-pub perm-lft : {m : ℕ} (i : ℕ) {w : List ℕ} → Perm m w → Perm m (lft i w)
-unfolding lft
-perm-lft i {w} c = record {
-  size = swapAt-length (pred i) w ∙ c .size;
-  once = λ v a b. count-swapAt v (pred i) w ∙ c .once v a b;
-  none = λ v a. count-swapAt v (pred i) w ∙ c .none v a;
-  zeroth = count-swapAt 0 (pred i) w ∙ c .zeroth;
 }
 
 -- ---- no value stands twice

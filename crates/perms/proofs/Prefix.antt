@@ -53,5 +53,5 @@ tally-more {p} {w} {t} {k} h a = record {
     go true = omega (arith, a .most)
     go false = omega (arith, a .most)
 
-pub tally-end : {p : ℕ → Bool} {w : List ℕ} {t k i : ℕ} → Tally p w t k → k ≤ i → i ≤ k → t ≡ tally p (take i w)
-tally-end {p} {w} a h l = a .is ∙ ap (λ n. tally p (take n w)) (le-antisymm h l)
+pub tally-all : {p : ℕ → Bool} {w : List ℕ} {t k i : ℕ} → Tally p w t k → k ≤ i → i ≤ k → t ≡ tally p (take i w)
+tally-all {p} {w} a h l = a .is ∙ ap (λ n. tally p (take n w)) (le-antisymm h l)

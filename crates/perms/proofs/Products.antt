@@ -1,5 +1,5 @@
 -- Products of image lists: a generator on either side acts as in Perm, and a product of words is the joined word. Rests on Range and Image.
-use mathlib.Core.Path.{_≡_, refl, sym, ap, _∙_}
+use mathlib.Core.Path.{_≡_, sym, ap, _∙_}
 use mathlib.Core.List.{List, [], _∷_, _++_, map, map-map, map-id}
 use Prim.Native.Nat.{ℕ, zero, suc, pred, _+_, _≤_, _<_}
 use native.Mathlib.Nat.{le-of-suc-le-suc}
@@ -7,17 +7,12 @@ use native.Mathlib.Omega.{arith}
 use lib.ListN.{length, getD, length-map}
 use lib.Seq.{ext-getD}
 use Rattle.perms.specs.Permutation.{Perm, image, product, identity, swap, generator, Letter, Word, ofWord}
-use Rattle.perms.proofs.Swap.{SwapView, lo, hi, off, swap?, swap-off, swap-lo, swap-hi}
+use Rattle.perms.proofs.Swap.{swap-off, swap-lo, swap-hi, swap-suc}
 use Rattle.perms.proofs.Perm.{rgt, rgtWord, swapAt, lft, swapAt-length, perm-rgt}
-use Rattle.perms.proofs.Range.{getD-range, perm-identity}
+use Rattle.perms.proofs.Range.{getD-range, getD-map, perm-identity}
 use Rattle.perms.proofs.Image.{perm-image}
 
 -- ---- images
-
-pub getD-map : (f : ℕ → ℕ) (w : List ℕ) (i : ℕ) → i < length w → getD (map f w) i 0 ≡ f (getD w i 0)
-getD-map f [] i h = absurd (omega arith)
-getD-map f (x ∷ w) zero h = refl
-getD-map f (x ∷ w) (suc i) h = getD-map f w i (le-of-suc-le-suc h)
 
 pub length-product : (u v : List ℕ) → length (product u v) ≡ length u
 unfolding product
@@ -77,20 +72,6 @@ perm-generator l = perm-rgt l (perm-identity _)
 pub product-generator : {m : ℕ} (i : ℕ) (w : List ℕ) → Perm m w → Letter m i → product w (generator m i) ≡ rgt i w
 unfolding product rgt
 product-generator {m} i w c l = map-perm (image (generator m i)) (swap i) w c (image-generator m i)
-
-swap-suc : (p k : ℕ) → swap (suc p) (suc k) ≡ suc (swap p k)
-swap-suc p k = go (swap? p k) (swap? (suc p) (suc k))
-  where
-    go : SwapView p k → SwapView (suc p) (suc k) → swap (suc p) (suc k) ≡ suc (swap p k)
-    go (lo a e) (lo b f) = omega arith
-    go (lo a e) (hi b f) = omega arith
-    go (lo a e) (off b c f) = omega arith
-    go (hi a e) (lo b f) = omega arith
-    go (hi a e) (hi b f) = omega arith
-    go (hi a e) (off b c f) = omega arith
-    go (off a n e) (lo b f) = omega arith
-    go (off a n e) (hi b f) = omega arith
-    go (off a n e) (off b c f) = omega arith
 
 getD-swapAt : (p : ℕ) (w : List ℕ) (k : ℕ) → suc p < length w → getD (swapAt p w) k 0 ≡ getD w (swap p k) 0
 getD-swapAt p [] k h = absurd (omega arith)

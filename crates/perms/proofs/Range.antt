@@ -1,5 +1,6 @@
--- The numbers of a range by index and by count; the identity is a permutation. Rests on Test.
+-- Lists by index: a range and a mapped list. A range by count; the identity is a permutation. Rests on Test.
 use mathlib.Core.Path.{_≡_, refl, ap}
+use mathlib.Core.List.{List, [], _∷_, map}
 use Prim.Native.Nat.{ℕ, zero, suc, _+_, _<_}
 use native.Mathlib.Nat.{le-of-suc-le-suc}
 use native.Mathlib.Omega.{arith}
@@ -18,6 +19,11 @@ unfolding range
 getD-range a zero i h = absurd (omega arith)
 getD-range a (suc n) zero h = omega arith
 getD-range a (suc n) (suc i) h = omega (arith, getD-range (suc a) n i (le-of-suc-le-suc h))
+
+pub getD-map : (f : ℕ → ℕ) (w : List ℕ) (i : ℕ) → i < length w → getD (map f w) i 0 ≡ f (getD w i 0)
+getD-map f [] i h = absurd (omega arith)
+getD-map f (x ∷ w) zero h = refl
+getD-map f (x ∷ w) (suc i) h = getD-map f w i (le-of-suc-le-suc h)
 
 less-step : (v a : ℕ) → bit (less v a) + bit (same a v) ≡ bit (less v (suc a))
 less-step v a = go (less? v a) (same? a v) (less? v (suc a))

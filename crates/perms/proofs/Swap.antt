@@ -1,4 +1,4 @@
--- The transposition s_i on points: what it does by cases, that it undoes itself, and that it keeps to 1 .. m + 1. Rests on Test.
+-- The transposition s_i on points: what it does by cases, that it undoes itself and keeps to 1 .. m + 1, and s_(i+1) one point on. Rests on Test.
 use mathlib.Core.Path.{_≡_, refl, sym, ap, _∙_}
 use mathlib.Core.Logic.{_≢_}
 use Prim.Native.Nat.{ℕ, suc, _+_, _≤_}
@@ -21,19 +21,45 @@ swap? i v = go (same? v i) (same? v (suc i))
     go (isnt n e) (is p f) = hi p (rw (e, f))
     go (isnt n e) (isnt k f) = off n k (rw (e, f))
 
-pub swap-swap : (i v : ℕ) → swap i (swap i v) ≡ v
-swap-swap i v = go (swap? i v) (swap? i (swap i v))
+pub swap-off : (i v : ℕ) → v ≢ i → v ≢ suc i → swap i v ≡ v
+swap-off i v n k = go (swap? i v)
   where
-    go : SwapView i v → SwapView i (swap i v) → swap i (swap i v) ≡ v
-    go (lo p e) (lo q f) = omega arith
-    go (lo p e) (hi q f) = omega arith
-    go (lo p e) (off q k f) = omega arith
-    go (hi p e) (lo q f) = omega arith
-    go (hi p e) (hi q f) = omega arith
-    go (hi p e) (off q k f) = omega arith
-    go (off p n e) (lo q f) = omega arith
-    go (off p n e) (hi q f) = omega arith
-    go (off p n e) (off q k f) = omega arith
+    go : SwapView i v → swap i v ≡ v
+    go (lo p e) = absurd (n p)
+    go (hi p e) = absurd (k p)
+    go (off p q e) = e
+
+pub swap-lo : (i : ℕ) → swap i i ≡ suc i
+swap-lo i = go (swap? i i)
+  where
+    go : SwapView i i → swap i i ≡ suc i
+    go (lo p e) = e
+    go (hi p e) = omega arith
+    go (off p n e) = absurd (p refl)
+
+pub swap-hi : (i : ℕ) → swap i (suc i) ≡ i
+swap-hi i = go (swap? i (suc i))
+  where
+    go : SwapView i (suc i) → swap i (suc i) ≡ i
+    go (lo p e) = omega arith
+    go (hi p e) = e
+    go (off p n e) = absurd (n refl)
+
+pub swap-swap : (i v : ℕ) → swap i (swap i v) ≡ v
+swap-swap i v = go (swap? i v)
+  where
+    go : SwapView i v → swap i (swap i v) ≡ v
+    go (lo p e) = ap (swap i) e ∙ swap-hi i ∙ sym p
+    go (hi p e) = ap (swap i) e ∙ swap-lo i ∙ sym p
+    go (off p n e) = ap (swap i) e ∙ e
+
+pub swap-suc : (i v : ℕ) → swap (suc i) (suc v) ≡ suc (swap i v)
+swap-suc i v = go (swap? i v)
+  where
+    go : SwapView i v → swap (suc i) (suc v) ≡ suc (swap i v)
+    go (lo p e) = ap (λ x. swap (suc i) (suc x)) p ∙ swap-lo (suc i) ∙ ap suc (sym e)
+    go (hi p e) = ap (λ x. swap (suc i) (suc x)) p ∙ swap-hi (suc i) ∙ ap suc (sym e)
+    go (off p n e) = swap-off (suc i) (suc v) (omega arith) (omega arith) ∙ ap suc (sym e)
 
 -- x is moved to v just where x is what v is moved to
 pub same-swap : (i x v : ℕ) → same (swap i x) v ≡ same x (swap i v)
@@ -58,22 +84,3 @@ swap-high {m} {i} v l h = go (swap? i v)
     go (lo p e) = omega arith
     go (hi p e) = omega arith
     go (off p n e) = omega arith
-
-pub swap-off : (i v : ℕ) → v ≢ i → v ≢ suc i → swap i v ≡ v
-swap-off i v n k = go (swap? i v)
-  where
-    go : SwapView i v → swap i v ≡ v
-    go (lo p e) = absurd (n p)
-    go (hi p e) = absurd (k p)
-    go (off p q e) = e
-
-pub swap-lo : (i : ℕ) → swap i i ≡ suc i
-swap-lo i = go (swap? i i)
-  where
-    go : SwapView i i → swap i i ≡ suc i
-    go (lo p e) = e
-    go (hi p e) = omega arith
-    go (off p n e) = absurd (p refl)
-
-pub swap-hi : (i : ℕ) → swap i (suc i) ≡ i
-swap-hi i = ap (swap i) (sym (swap-lo i)) ∙ swap-swap i i

@@ -1,5 +1,5 @@
 -- The tests `same` and `less` by cases: what holds of the numbers, with what the test then is. Rests on nothing here.
-use mathlib.Core.Path.{_≡_, refl, subst}
+use mathlib.Core.Path.{_≡_, refl, sym, ap, subst, _∙_}
 use mathlib.Core.Logic.{_≢_}
 use mathlib.Core.Bool.{Bool, true, false}
 use Prim.Native.Nat.{ℕ, _≤_, _<_}
@@ -60,6 +60,35 @@ less-no {x} {a} p = go (less? x a)
     go : LessView x a → less x a ≡ false
     go (lt q e) = absurd (omega arith)
     go (ge n e) = e
+
+-- and the facts from the tests
+pub same-true : (x a : ℕ) → same x a ≡ true → x ≡ a
+same-true x a t = go (same? x a)
+  where
+    go : SameView x a → x ≡ a
+    go (is p e) = p
+    go (isnt n e) = absurd (omega (arith, ap bit (sym e ∙ t)))
+
+pub same-false : (x a : ℕ) → same x a ≡ false → x ≢ a
+same-false x a t = go (same? x a)
+  where
+    go : SameView x a → x ≢ a
+    go (is p e) = absurd (omega (arith, ap bit (sym e ∙ t)))
+    go (isnt n e) = n
+
+pub less-true : (x a : ℕ) → less x a ≡ true → x < a
+less-true x a t = go (less? x a)
+  where
+    go : LessView x a → x < a
+    go (lt h e) = h
+    go (ge h e) = absurd (omega (arith, ap bit (sym e ∙ t)))
+
+pub less-false : (x a : ℕ) → less x a ≡ false → a ≤ x
+less-false x a t = go (less? x a)
+  where
+    go : LessView x a → a ≤ x
+    go (lt h e) = absurd (omega (arith, ap bit (sym e ∙ t)))
+    go (ge h e) = h
 
 -- a test cast to a number
 pub byte-bit : (b : Bool) → boolByte b ≡ bit b

@@ -6,13 +6,13 @@ use native.Mathlib.Nat.{le-of-suc-le-suc}
 use native.Mathlib.Omega.{arith}
 use lib.ListN.{length, getD, take, length-map, length-take, List·getD-eq-default}
 use lib.Seq.{take-all}
-use Rattle.perms.specs.Lists.{less, bit, range, tally}
+use Rattle.perms.specs.Lists.{less, range}
 use Rattle.perms.specs.Permutation.{Perm}
 use Rattle.perms.specs.Extend.{bump, extend}
 use Rattle.perms.specs.Tower.{above, entry, towerOf, Tower}
 use Rattle.perms.proofs.Test.{LessView, lt, ge, less?}
-use Rattle.perms.proofs.Range.{length-range, getD-range}
-use Rattle.perms.proofs.Products.{getD-map}
+use Rattle.perms.proofs.Tally.{tally-map, tally-size}
+use Rattle.perms.proofs.Range.{length-range, getD-range, getD-map}
 use Rattle.perms.proofs.Above.{above-step, above-none}
 use Rattle.perms.proofs.Extend.{length-extend, less-bump, less-room}
 use Rattle.perms.proofs.Split.{Tail}
@@ -30,18 +30,9 @@ pub length-tower : (w : List ℕ) → length (towerOf w) ≡ pred (length w)
 unfolding towerOf
 length-tower w = length-map (range 1 (pred (length w))) (λ j. entry j w) ∙ length-range 1 (pred (length w))
 
-above-le : (x : ℕ) (w : List ℕ) → above x w ≤ length w
-unfolding above tally
-above-le x [] = omega arith
-above-le x (y ∷ w) = go (above-le x w) (less? x y)
-  where
-    go : above x w ≤ length w → LessView x y → bit (less x y) + above x w ≤ suc (length w)
-    go ih (lt h e) = rw e (omega arith)
-    go ih (ge h e) = rw e (omega arith)
-
 entry-le : (j : ℕ) (w : List ℕ) → entry j w ≤ j
-unfolding entry
-entry-le j w = omega (arith, above-le (getD w j 0) (take j w), length-take j w)
+unfolding entry above
+entry-le j w = omega (arith, tally-size (λ y. less (getD w j 0) y) (take j w), length-take j w)
 
 pub tower-is : (m : ℕ) (w : List ℕ) → Perm m w → Tower m (towerOf w)
 tower-is m w p = record { size = omega (arith, length-tower w, p .size); within = λ i. go i (less? (suc i) (length w)) }
@@ -70,9 +61,8 @@ take-extend c (suc j) [] h = absurd (omega arith)
 take-extend c (suc j) (x ∷ u) h = ap {B = List ℕ} (λ y. bump c x ∷ y) (take-extend c j u (le-of-suc-le-suc h))
 
 above-bump : (c x : ℕ) (u : List ℕ) → above (bump c x) (map (bump c) u) ≡ above x u
-unfolding above tally
-above-bump c x [] = refl
-above-bump c x (y ∷ u) = ap₂ (λ a b. bit a + b) (less-bump c x y) (above-bump c x u)
+unfolding above
+above-bump c x u = tally-map (λ y. less (bump c x) y) (λ y. less x y) (bump c) (λ y. less-bump c x y) u
 
 entry-extend : (c j : ℕ) (u : List ℕ) → j < length u → entry j (extend c u) ≡ entry j u
 unfolding entry
@@ -81,9 +71,8 @@ entry-extend c j u h = ap₂ above (getD-extend c j u h) (take-extend c j u (ome
 -- ---- the last entry
 
 above-room : (c : ℕ) (u : List ℕ) → above (suc c) (map (bump (suc c)) u) ≡ above c u
-unfolding above tally
-above-room c [] = refl
-above-room c (x ∷ u) = ap₂ (λ a b. bit a + b) (less-room c x) (above-room c u)
+unfolding above
+above-room c u = tally-map (λ y. less (suc c) y) (λ y. less c y) (bump (suc c)) (less-room c) u
 
 -- the values of a permutation of rank m above c are m + 1 - c
 pub above-perm : {m : ℕ} (u : List ℕ) → Perm m u → (k c : ℕ) → c + k ≡ m + 1 → above c u ≡ k

@@ -9,7 +9,8 @@ use lib.ListN.{length, getD, take}
 use Rattle.perms.specs.Lists.{same, less, bit, count, tally}
 use Rattle.perms.specs.Permutation.{Perm}
 use Rattle.perms.specs.Tower.{above}
-use Rattle.perms.proofs.Test.{SameView, is, isnt, LessView, lt, ge, same?, less?}
+use Rattle.perms.proofs.Test.{SameView, is, isnt, LessView, lt, ge, same?, less?, less-yes, same-true}
+use Rattle.perms.proofs.Tally.{tally-mono}
 use Rattle.perms.proofs.Perm.{Dist}
 use Rattle.perms.proofs.Image.{At, at-count}
 use Rattle.perms.proofs.Above.{above-step, above-none}
@@ -27,15 +28,8 @@ length-above (x ∷ w) = go (length-above w) (same? x 0) (less? 0 x)
 
 -- a value above c counts
 count-above : (c v : ℕ) (w : List ℕ) → c < v → count v w ≤ above c w
-unfolding count above tally
-count-above c v [] h = omega arith
-count-above c v (x ∷ w) h = go (count-above c v w h) (same? x v) (less? c x)
-  where
-    go : count v w ≤ above c w → SameView x v → LessView c x → bit (same x v) + count v w ≤ bit (less c x) + above c w
-    go ih (is p e) (lt a f) = rw (e, f) (omega arith)
-    go ih (is p e) (ge a f) = absurd (omega arith)
-    go ih (isnt p e) (lt a f) = rw (e, f) (omega arith)
-    go ih (isnt p e) (ge a f) = rw (e, f) (omega arith)
+unfolding count above
+count-above c v w h = tally-mono (λ x. same x v) (λ x. less c x) (λ x e. less-yes (omega (arith, same-true x v e))) w
 
 above-each : (w : List ℕ) (k c : ℕ) → ((v : ℕ) → c < v → v ≤ c + k → 1 ≤ count v w) → k + above (c + k) w ≤ above c w
 above-each w zero c h = let e : c + 0 ≡ c = omega arith in rw e (omega arith)

@@ -3,7 +3,7 @@ use mathlib.Core.Path.{_≡_, refl, sym, ap, _∙_}
 use mathlib.Core.Logic.{_≢_}
 use mathlib.Core.Bool.{Bool, true, false, not, _||_}
 use mathlib.Core.List.{List}
-use Prim.Native.Nat.{ℕ, zero, suc, pred, _≤_, _<_}
+use Prim.Native.Nat.{ℕ, suc, pred, _≤_}
 use native.Mathlib.Omega.{arith}
 use lib.ListN.{length, getD, take, List·getD-eq-default}
 use Rattle.perms.specs.declared.Refusal.{Refusal}
@@ -14,7 +14,8 @@ use Rattle.perms.specs.Lists.{same, less, bit, first, count}
 use Rattle.perms.specs.Permutation.{Perm}
 use Rattle.perms.specs.Tower.{Tower}
 use Rattle.perms.specs.Calls.{badImage, firstBadImage, firstBadEntry, _then_, unless, imagesVerdict, entriesVerdict, towerVerdict, towersVerdict, exact}
-use Rattle.perms.proofs.Test.{SameView, is, isnt, LessView, lt, ge, same?, less?, same-yes, same-no, less-no}
+use Rattle.perms.proofs.Test.{SameView, is, isnt, LessView, lt, ge, same?, less?, same-yes, same-no, less-no, same-false, less-false}
+use Rattle.perms.proofs.First.{passed}
 use Rattle.perms.proofs.Valid.{perm-of-checked}
 
 -- ---- verdicts
@@ -48,31 +49,6 @@ or-next : (a b : Bool) → (a || b) ≡ false → b ≡ false
 or-next false b e = e
 or-next true b e = absurd (omega (arith, ap bit e))
 
-not-less : (x y : ℕ) → less x y ≡ false → y ≤ x
-not-less x y e = go (less? x y)
-  where
-    go : LessView x y → y ≤ x
-    go (lt h f) = omega (arith, ap bit (sym f ∙ e))
-    go (ge h f) = h
-
-not-same : (x y : ℕ) → same x y ≡ false → x ≢ y
-not-same x y e = go (same? x y)
-  where
-    go : SameView x y → x ≢ y
-    go (is p f) = absurd (omega (arith, ap bit (sym f ∙ e)))
-    go (isnt p f) = p
-
--- the search has passed what comes before its result
-passed : (p : ℕ → Bool) (a n i : ℕ) → a ≤ i → i < first p a n → p i ≡ false
-unfolding first
-passed p a zero i h l = absurd (omega arith)
-passed p a (suc n) i h l = go (passed p (suc a) n i) (p a) refl (same? a i)
-  where
-    go : (suc a ≤ i → i < first p (suc a) n → p i ≡ false) → (b : Bool) → p a ≡ b → SameView a i → p i ≡ false
-    go ih true e s = absurd (omega (arith, rw e at l))
-    go ih false e (is q f) = ap p (sym q) ∙ e
-    go ih false e (isnt q f) = ih (omega arith) (rw e at l)
-
 -- ---- verdicts where the sizes are right
 
 pub images-sized : (w : List ℕ) → length w ≢ 0 → length w ≤ 64 → imagesVerdict w ≡ unless (less (firstBadImage w) (length w)) (Image (firstBadImage w))
@@ -104,22 +80,22 @@ entries-accepted t e = record { size = refl; within = λ i. go i (less? i (lengt
     bad i = less (suc i) (getD t i 0)
 
     all : length t ≤ first bad 0 (length t)
-    all = not-less (first bad 0 (length t)) (length t) (accepts-unless (less (first bad 0 (length t)) (length t)) (Entry (first bad 0 (length t))) e)
+    all = less-false (first bad 0 (length t)) (length t) (accepts-unless (less (first bad 0 (length t)) (length t)) (Entry (first bad 0 (length t))) e)
 
     go : (i : ℕ) → LessView i (length t) → getD t i 0 ≤ suc i
-    go i (lt h f) = not-less (suc i) (getD t i 0) (passed bad 0 (length t) i (omega arith) (omega (arith, all)))
+    go i (lt h f) = less-false (suc i) (getD t i 0) (passed bad 0 (length t) i (omega arith) (omega (arith, all)))
     go i (ge h f) = omega (arith, List·getD-eq-default t 0 {n = i} h)
 
 pub tower-accepted : (t : List ℕ) → towerVerdict t ≡ Accepted → (length t ≤ 63) × Tower (length t) t
 unfolding towerVerdict
 tower-accepted t e =
     let size = unless (less 63 (length t)) Size in
-    (not-less 63 (length t) (accepts-unless (less 63 (length t)) Size (accepts-first size (entriesVerdict t) e)), entries-accepted t (accepts-next size (entriesVerdict t) e))
+    (less-false 63 (length t) (accepts-unless (less 63 (length t)) Size (accepts-first size (entriesVerdict t) e)), entries-accepted t (accepts-next size (entriesVerdict t) e))
 
 pub towers-accepted : (t u : List ℕ) → towersVerdict t u ≡ Accepted → (length t ≤ 63) × (length t ≡ length u) × Tower (length t) t × Tower (length u) u
 unfolding towersVerdict
 towers-accepted t u e = (
-  not-less 63 (length t) (or-first a b first-two),
+  less-false 63 (length t) (or-first a b first-two),
   equal (same? (length t) (length u)),
   entries-accepted t (accepts-first (entriesVerdict t) (entriesVerdict u) rest),
   entries-accepted u (accepts-next (entriesVerdict t) (entriesVerdict u) rest),
@@ -150,9 +126,9 @@ towers-accepted t u e = (
 good-image : (w : List ℕ) (i : ℕ) → badImage w i ≡ false → (1 ≤ getD w i 0) × (getD w i 0 ≤ length w) × (count (getD w i 0) (take i w) ≡ 0)
 unfolding badImage
 good-image w i e = (
-  omega (arith, not-same x 0 (or-first a b both)),
-  not-less (length w) x (or-next a b both),
-  omega (arith, not-less 0 (count x (take i w)) (or-next (a || b) d e)),
+  omega (arith, same-false x 0 (or-first a b both)),
+  less-false (length w) x (or-next a b both),
+  omega (arith, less-false 0 (count x (take i w)) (or-next (a || b) d e)),
 )
   where
     x : ℕ
@@ -174,7 +150,7 @@ pub images-accepted : (w : List ℕ) → imagesVerdict w ≡ Accepted → (1 ≤
 unfolding imagesVerdict firstBadImage
 images-accepted w e = (
   some,
-  not-less 64 (length w) (or-next a b sizes),
+  less-false 64 (length w) (or-next a b sizes),
   perm-of-checked w (λ i h. good-image w i (passed (badImage w) 0 (length w) i (omega arith) (omega (arith, all)))) some,
 )
   where
@@ -194,7 +170,7 @@ images-accepted w e = (
     sizes = accepts-unless (a || b) Size (accepts-first (unless (a || b) Size) rest e)
 
     some : 1 ≤ length w
-    some = omega (arith, not-same (length w) 0 (or-first a b sizes))
+    some = omega (arith, same-false (length w) 0 (or-first a b sizes))
 
     all : length w ≤ bad
-    all = not-less bad (length w) (accepts-unless (less bad (length w)) (Image bad) (accepts-next (unless (a || b) Size) rest e))
+    all = less-false bad (length w) (accepts-unless (less bad (length w)) (Image bad) (accepts-next (unless (a || b) Size) rest e))

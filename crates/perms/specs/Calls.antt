@@ -3,9 +3,16 @@
 --   refusalNumber, refusalPlace   document 01's number and place of a refusal
 --   firstBadImage w               the index of the first image that is 0, too large or already seen, else the number of images
 --   firstBadEntry t               the index of the first entry a_j above j, else the number of entries
---   imagesVerdict, towerVerdict, towersVerdict, exact, room   the checks under the numbers 5 to 8
---   first then second             the first refusal of two verdicts
+--   v then w                      the first refusal of two verdicts
+--   unless bad why                refused if the test holds
+--   imagesVerdict w               5 and 6: on an image list
+--   towerVerdict t                5 and 7: on a tower
+--   towersVerdict t u             5 and 7: on two towers of one size
+--   exact size n                  8: on the size of a buffer for a result of n bytes
+--   room size n                   8: on the size of a buffer for a word of n letters
 --   Outcome A                     an answer and what the call's buffer holds afterwards
+--   write v buffer result         the result is written if nothing is refused
+--   spell v buffer word           the same of a word; what stands after its letters stays
 --   xCall                         the call x
 use mathlib.Core.Bool.{Bool, cond, not, _||_}
 use mathlib.Core.List.{List, _++_}
@@ -52,7 +59,6 @@ abbrev pub _then_ : Verdict → Verdict → Verdict
 Accepted then next = next
 Refused why then next = Refused why
 
--- refused if the test holds
 abbrev pub unless : Bool → Refusal → Verdict
 unless bad why = cond bad (Refused why) Accepted
 
@@ -72,7 +78,6 @@ towersVerdict t u =
     unless (less 63 (length t) || less 63 (length u) || not (same (length t) (length u))) Size
     then entriesVerdict t then entriesVerdict u
 
--- on the size of a buffer
 unfoldable pub exact : ℕ → ℕ → Verdict
 exact size n = unless (not (same size n)) Buffer
 
@@ -85,7 +90,6 @@ pub record Outcome (A : Type 0) : Type 0 where
   pub answer : A
   pub buffer : List ℕ
 
--- the result is written if nothing is refused
 abbrev pub write : Verdict → List ℕ → List ℕ → Outcome Verdict
 write Accepted buffer result = record { answer = Accepted; buffer = result }
 write (Refused why) buffer result = record { answer = Refused why; buffer = buffer }
@@ -110,7 +114,6 @@ productCall t u buffer = write (towersVerdict t u then exact (length buffer) (le
 unfoldable pub lengthCall : List ℕ → Counted
 lengthCall t = counted (towerVerdict t) (len (imagesOf t))
 
--- the letters of the standard word, and after them what stood there
 abbrev pub spell : Verdict → List ℕ → List ℕ → Outcome Counted
 spell Accepted buffer word = record { answer = C.Count (length word); buffer = word ++ drop (length word) buffer }
 spell (Refused why) buffer word = record { answer = C.Refused why; buffer = buffer }

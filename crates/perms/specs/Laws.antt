@@ -2,7 +2,9 @@
 --
 --   Checks          what the checks accept: permutations and towers within document 01's sizes, and nothing else
 --   Group           the permutations of rank m are a group under the product
+--   at t i          the entry a_i of a tower t, with a_0 = 0
 --   Towers          towers and permutations undo each other; tower product and inverse; lengths, standard words and descents
+--   a m j k         a(j, k) as a permutation of rank m
 --   Proposition2-6  the four lines on a(m, k) a(j, l), for 1 ≤ j ≤ m, k ≤ m and l ≤ j
 use mathlib.Core.Path.{_≡_}
 use mathlib.Core.Logic.{_↔_}
@@ -31,7 +33,6 @@ pub record Group (m : ℕ) : Type 0 where
   pub inverse-left : (w : List ℕ) → Perm m w → product (inverse w) w ≡ identity m
   pub inverse-right : (w : List ℕ) → Perm m w → product w (inverse w) ≡ identity m
 
--- with a_0 = 0, the entry a_i of a tower
 abbrev pub at : List ℕ → ℕ → ℕ
 at t i = getD (0 ∷ t) i 0
 
@@ -46,7 +47,6 @@ pub record Towers (m : ℕ) : Type 0 where
   pub standard-shortest : (w : List ℕ) → Perm m w → Shortest m (standard (towerOf w)) w
   pub descents : (w : List ℕ) → Perm m w → (i : ℕ) → Letter m i → (descent m w i ≡ true) ↔ (at (towerOf w) (pred i) < at (towerOf w) i)
 
--- a(j, k) as a permutation of rank m
 abbrev pub a : ℕ → ℕ → ℕ → List ℕ
 a m j k = ofWord m (cycle j k)
 

@@ -7,6 +7,7 @@
 --   inverse w       takes each point to the one whose image under w it is
 --   swap i v        the image of the point v under s_i
 --   generator m i   s_i as a permutation of rank m
+--   below x w       how many elements of w are below x
 --   len w           the length: pairs of points i < j whose images stand in falling order
 --   Letter m i      i is from 1 to m, and names s_i
 --   Word m x        x is a list of letters
@@ -47,7 +48,6 @@ generator m i = map (swap i) (identity m)
 
 -- ---- length
 
--- how many elements of w are below x
 unfoldable pub below : ℕ → List ℕ → ℕ
 below x w = tally (λ y. less y x) w
 

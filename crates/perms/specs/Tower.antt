@@ -5,7 +5,9 @@
 --   towerOf w       the tower (a_1, .., a_m) of w
 --   Tower m t       t is a tower of rank m: m entries with a_j ≤ j
 --   cycle j k       the word of a(j, k) = s_j s_(j-1) .. s_(j-k+1)
+--   cycles j t      the words of a(j, b_1), a(j + 1, b_2), .. joined, for the entries b_1, b_2, .. of t
 --   standard t      the standard word: the words of a(1, a_1) to a(m, a_m), joined
+--   ofCycles m j t  the product of a(j, b_1), a(j + 1, b_2), .. as permutations of rank m
 --   imagesOf t      the permutation of a tower: the product of a(1, a_1) to a(m, a_m)
 --   total t         the sum of the entries
 --   descent m w i   the test whether s_i is in the descent set of w: ℓ(s_i w) < ℓ(w)
@@ -37,7 +39,6 @@ unfoldable pub cycle : ℕ → ℕ → List ℕ
 cycle j zero = []
 cycle j (suc k) = j ∷ cycle (pred j) k
 
--- the words of a(j, b_1), a(j + 1, b_2), .. joined, for the entries b_1, b_2, ..
 unfoldable pub cycles : ℕ → List ℕ → List ℕ
 cycles j [] = []
 cycles j (b ∷ t) = cycle j b ++ cycles (suc j) t
@@ -45,7 +46,6 @@ cycles j (b ∷ t) = cycle j b ++ cycles (suc j) t
 unfoldable pub standard : List ℕ → List ℕ
 standard t = cycles 1 t
 
--- the product of a(j, b_1), a(j + 1, b_2), .. as permutations of rank m
 unfoldable pub ofCycles : ℕ → ℕ → List ℕ → List ℕ
 ofCycles m j [] = identity m
 ofCycles m j (b ∷ t) = product (ofWord m (cycle j b)) (ofCycles m (suc j) t)

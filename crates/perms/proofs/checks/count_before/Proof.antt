@@ -3,7 +3,7 @@ use Prim.Native.Nat.{_-_, _≤_}
 use native.Mathlib.Omega.{arith}
 use lib.Dec.{eqb}
 use Rattle.perms.specs.Lists.{same, count}
-use Rattle.perms.proofs.Prefix.{Tally, tally-none, tally-more, tally-end}
+use Rattle.perms.proofs.Prefix.{Tally, tally-none, tally-more, tally-all}
 use Rattle.perms.proofs.checks.count_before.Statement.{statement}
 use Rattle.perms.proofs.checks.count_before.Tie as tie
 
@@ -24,7 +24,7 @@ loop-again c = (omega arith, tally-more (omega arith) (c .before .before .loop .
 
 returns : tie.Need-returns Inv-loop μ-loop
 unfolding count same
-returns c = tally-end {i = c .before .before .args .i} (c .before .loop .inv .1) (omega arith) (omega arith)
+returns c = tally-all {i = c .before .before .args .i} (c .before .loop .inv .1) (omega arith) (omega arith)
 
 pub count-before-spec : {M : Type 1} → statement M
 count-before-spec = tie.close (tie.spec Inv-loop μ-loop loop-holds (λ c. omega arith) (λ c. tt) add-times (λ c. omega arith) (λ c. omega arith) loop-again returns)

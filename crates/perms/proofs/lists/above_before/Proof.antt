@@ -4,7 +4,7 @@ use native.Mathlib.Omega.{arith}
 use lib.Dec.{ltb}
 use Rattle.perms.specs.Lists.{less}
 use Rattle.perms.specs.Tower.{above}
-use Rattle.perms.proofs.Prefix.{Tally, tally-none, tally-more, tally-end}
+use Rattle.perms.proofs.Prefix.{Tally, tally-none, tally-more, tally-all}
 use Rattle.perms.proofs.lists.above_before.Statement.{statement}
 use Rattle.perms.proofs.lists.above_before.Tie as tie
 
@@ -25,7 +25,7 @@ loop-again c = (omega arith, tally-more (omega arith) (c .before .before .loop .
 
 returns : tie.Need-returns Inv-loop μ-loop
 unfolding above less
-returns c = tally-end {i = c .before .before .args .j} (c .before .loop .inv .1) (omega arith) (omega arith)
+returns c = tally-all {i = c .before .before .args .j} (c .before .loop .inv .1) (omega arith) (omega arith)
 
 pub above-before-spec : {M : Type 1} → statement M
 above-before-spec = tie.close (tie.spec Inv-loop μ-loop loop-holds (λ c. omega arith) (λ c. tt) add-larger (λ c. omega arith) (λ c. omega arith) loop-again returns)
