@@ -1,10 +1,14 @@
 -- The laws of sums over a list. For any operations: equal terms, and a mapped list. In a ring: a joined list; sums of zeros, of sums and of
--- multiples; two sums in either order. Rests on Ring.
+-- multiples; two sums in either order; a sum with one term that counts. Rests on Ring.
 use mathlib.Core.Path.{_≡_, refl, sym, ap, ap₂, _∙_}
+use mathlib.Core.Logic.{_≢_}
 use mathlib.Core.List.{List, [], _∷_, _++_, map, List·Memᴰ, List·Memᴰ·head, List·Memᴰ·tail}
+use Prim.Native.Nat.{ℕ, zero, suc, _<_}
+use native.Mathlib.Omega.{arith}
+use lib.ListN.{length, getD, length-map, List·getD-eq-default}
 use Rattle.ring.specs.Ring.{Ops, Ring}
 use Rattle.ring.specs.Sum.{sum}
-use Rattle.ring.proofs.Ring.{add-left-comm, mul-zero}
+use Rattle.ring.proofs.Ring.{add-zero, add-left-comm, mul-zero}
 
 module _ (A : Type 0) (o : Ops A) where
   pub sum-cong : {B : Type 0} (s : List B) (f g : B → A) → ((x : B) → List·Memᴰ x s → f x ≡ g x) → sum A o s f ≡ sum A o s g
@@ -48,3 +52,16 @@ module _ (A : Type 0) (o : Ops A) (𝓡 : Ring A o) where
   sum-swap (x ∷ s) t f =
       ap (o .add (sum A o t (λ y. f x y))) (sum-swap s t f)
       ∙ sym (sum-add t (λ y. f x y) (λ y. sum A o s (λ z. f z y)))
+
+  -- a sum in which only the term at index i may differ from 0
+  pub sum-single : {B : Type 0} (s : List B) (f : B → A) (i : ℕ) (d : B) → ((j : ℕ) → j < length s → j ≢ i → f (getD s j d) ≡ o .zero)
+      → sum A o s f ≡ getD (map f s) i (o .zero)
+  unfolding sum
+  sum-single [] f i d h = refl
+  sum-single (x ∷ s) f zero d h =
+      ap (o .add (f x)) (sum-single s f (length s) d (λ j l n. h (suc j) (omega arith) (omega arith)))
+      ∙ ap (o .add (f x)) (List·getD-eq-default (map f s) (o .zero) (omega (arith, length-map s f)))
+      ∙ add-zero A o 𝓡 (f x)
+  sum-single (x ∷ s) f (suc i) d h =
+      ap₂ (o .add) (h 0 (omega arith) (omega arith)) (sum-single s f i d (λ j l n. h (suc j) (omega arith) (omega arith)))
+      ∙ 𝓡 .zero-add (getD (map f s) i (o .zero))
