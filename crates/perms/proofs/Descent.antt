@@ -1,43 +1,26 @@
 -- The descents of a permutation are where its images fall, and where the entries of its tower, with a_0 = 0, rise. Rests on ImagesOf,
--- and on Products for s_i w.
+-- and on Products and Longer for s_i w.
 use mathlib.Core.Path.{_≡_, refl, sym, ap, ap₂, _∙_}
 use mathlib.Core.Logic.{_↔_}
-use mathlib.Core.Bool.{Bool, true}
+use mathlib.Core.Bool.{true}
 use mathlib.Core.List.{List, [], _∷_}
 use Prim.Native.Nat.{ℕ, zero, suc, pred, _+_, _≤_, _<_}
-use native.Mathlib.Nat.{le-of-suc-le-suc}
 use native.Mathlib.Omega.{arith}
 use lib.ListN.{length, getD, take}
 use lib.Seq.{take-suc}
 use Rattle.perms.specs.Lists.{less, bit, tally}
-use Rattle.perms.specs.Permutation.{Perm, below, len, Letter}
+use Rattle.perms.specs.Permutation.{Perm, len, Letter}
 use Rattle.perms.specs.Tower.{above, entry, towerOf, Tower, imagesOf, descent}
 use Rattle.perms.specs.Laws.{at}
 use Rattle.perms.proofs.Test.{LessView, lt, ge, less?, less-yes, less-no, less-true}
 use Rattle.perms.proofs.Tally.{tally-append, tally-mono}
 use Rattle.perms.proofs.Perm.{swapAt, lft}
 use Rattle.perms.proofs.Products.{generator-product}
+use Rattle.perms.proofs.Longer.{len-swapAt}
 use Rattle.perms.proofs.Tower.{getD-tower}
 use Rattle.perms.proofs.ImagesOf.{perm-is, back-and-there}
 
 -- ---- two neighbours that change places
-
-tally-swapAt : (t : ℕ → Bool) (p : ℕ) (w : List ℕ) → tally t (swapAt p w) ≡ tally t w
-unfolding tally
-tally-swapAt t zero [] = refl
-tally-swapAt t zero (x ∷ []) = refl
-tally-swapAt t zero (x ∷ y ∷ w) = omega arith
-tally-swapAt t (suc p) [] = refl
-tally-swapAt t (suc p) (x ∷ w) = ap (λ n. bit (t x) + n) (tally-swapAt t p w)
-
--- one pair more falls if they rise, one less if they fall
-len-swapAt : (p : ℕ) (w : List ℕ) → suc p < length w
-    → len (swapAt p w) + bit (less (getD w (suc p) 0) (getD w p 0)) ≡ len w + bit (less (getD w p 0) (getD w (suc p) 0))
-unfolding len below tally
-len-swapAt p [] h = absurd (omega arith)
-len-swapAt zero (x ∷ []) h = absurd (omega arith)
-len-swapAt zero (x ∷ y ∷ w) h = omega arith
-len-swapAt (suc p) (x ∷ w) h = omega (arith, tally-swapAt (λ y. less y x) p w, len-swapAt p w (le-of-suc-le-suc h))
 
 less-swapAt : (p : ℕ) (w : List ℕ) → suc p < length w → less (len (swapAt p w)) (len w) ≡ less (getD w (suc p) 0) (getD w p 0)
 less-swapAt p w h = go (less? (getD w (suc p) 0) (getD w p 0)) (less? (getD w p 0) (getD w (suc p) 0)) (len-swapAt p w h)

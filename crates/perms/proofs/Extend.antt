@@ -1,16 +1,16 @@
 -- A permutation of one more point: `extend c u` makes room for the value c in u and puts c last. What a generator on the right does to it,
--- and the identity as such a list. Rests on Swap and on `rgt` of Perm.
+-- and the identity as such a list. Rests on Swap and Perm.
 use mathlib.Core.Path.{_≡_, sym, ap, ap₂, refl, _∙_}
-use mathlib.Core.List.{List, [], _∷_, map, map-id}
+use mathlib.Core.List.{List, [], _∷_, _++_, map, map-id}
 use Prim.Native.Nat.{ℕ, zero, suc, _+_, _-_, _≤_, _<_}
 use native.Mathlib.Omega.{arith}
-use lib.ListN.{length}
+use lib.ListN.{length, getD}
 use Rattle.perms.specs.Lists.{less, range}
 use Rattle.perms.specs.Permutation.{identity, swap}
 use Rattle.perms.specs.Extend.{bump, extend}
 use Rattle.perms.proofs.Test.{SameView, is, isnt, LessView, lt, ge, same?, less?, less-yes, less-no}
-use Rattle.perms.proofs.Swap.{swap-high, swap-off, swap-lo, swap-hi}
-use Rattle.perms.proofs.Perm.{rgt}
+use Rattle.perms.proofs.Swap.{swap-low, swap-high, swap-off, swap-lo, swap-hi, swap-suc}
+use Rattle.perms.proofs.Perm.{rgt, rgt-rgt}
 
 pub data BumpView (c v : ℕ) : Type 0 where
   under : v < c → bump c v ≡ v → BumpView c v
@@ -38,6 +38,12 @@ bump-over {c} {v} h = go (bump? c v)
     go : BumpView c v → bump c v ≡ suc v
     go (under p e) = absurd (omega arith)
     go (over p e) = e
+
+-- where all values are below c nothing makes room
+pub extend-snoc : (c : ℕ) (u : List ℕ) → ((i : ℕ) → i < length u → getD u i 0 < c) → extend c u ≡ u ++ (c ∷ [])
+unfolding extend
+extend-snoc c [] h = refl
+extend-snoc c (x ∷ u) h = ap₂ {C = List ℕ} (λ a b. a ∷ b) (bump-under (h 0 (omega arith))) (extend-snoc c u (λ i k. h (suc i) (omega arith)))
 
 pub length-extend : (c : ℕ) (u : List ℕ) → length (extend c u) ≡ suc (length u)
 unfolding extend
@@ -88,6 +94,19 @@ rgt-upper i u = rgt-extend i (suc i) i (λ v. v) (swap-hi i) (λ v. go v (bump? 
     go v (under a e) s = ap (swap i) (bump-under (omega arith)) ∙ swap-off i v (omega arith) (omega arith) ∙ sym e
     go v (over a e) (is p f) = ap (swap i) (bump-under (omega arith) ∙ p) ∙ swap-lo i ∙ omega arith
     go v (over a e) (isnt n f) = ap (swap i) (bump-over (omega arith)) ∙ swap-off i (suc v) (omega arith) (omega arith) ∙ sym e
+
+-- c is the lower
+pub rgt-lower : (i : ℕ) (u : List ℕ) → rgt i (extend i u) ≡ extend (suc i) u
+rgt-lower i u = ap (rgt i) (sym (rgt-upper i u)) ∙ rgt-rgt i (extend (suc i) u)
+
+-- c is below both: they were one less before room was made for c
+pub rgt-below : (i c : ℕ) → c ≤ i → (u : List ℕ) → rgt (suc i) (extend c u) ≡ extend c (rgt i u)
+unfolding rgt
+rgt-below i c h u = rgt-extend (suc i) c c (swap i) (swap-off (suc i) c (omega arith) (omega arith)) (λ v. go v (bump? c v)) u
+  where
+    go : (v : ℕ) → BumpView c v → swap (suc i) (bump c v) ≡ bump c (swap i v)
+    go v (under a e) = ap (swap (suc i)) e ∙ swap-off (suc i) v (omega arith) (omega arith) ∙ sym (ap (bump c) (swap-off i v (omega arith) (omega arith)) ∙ e)
+    go v (over a e) = ap (swap (suc i)) e ∙ swap-suc i v ∙ sym (bump-over (swap-low v h a))
 
 -- ---- the identity
 

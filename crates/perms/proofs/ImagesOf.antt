@@ -7,14 +7,16 @@ use native.Mathlib.Omega.{arith}
 use lib.ListN.{length, getD, take, length-append, List·getD-eq-default}
 use lib.Seq.{length-take-le, take-all, take-suc, getD-take}
 use Rattle.perms.specs.Lists.{range}
-use Rattle.perms.specs.Permutation.{identity, Perm, Letter, Word}
+use Rattle.perms.specs.Permutation.{Perm, product, identity, Letter, Word, ofWord}
 use Rattle.perms.specs.Extend.{extend}
 use Rattle.perms.specs.Tower.{towerOf, Tower, cycle, cycles, standard, ofCycles, imagesOf}
 use Rattle.perms.proofs.Test.{LessView, lt, ge, less?}
 use Rattle.perms.proofs.Perm.{rgt, rgtWord}
 use Rattle.perms.proofs.Range.{perm-identity}
-use Rattle.perms.proofs.Products.{ofWord-rgt}
-use Rattle.perms.proofs.Extend.{rgt-above, rgt-upper, identity-suc}
+use Rattle.perms.proofs.Image.{perm-image}
+use Rattle.perms.proofs.Products.{product-ofWord, ofWord-rgt}
+use Rattle.perms.proofs.Word.{word-cycle}
+use Rattle.perms.proofs.Extend.{extend-snoc, rgt-above, rgt-upper, identity-suc}
 use Rattle.perms.proofs.Split.{Tail, perm-extend, Apart, split, perm-zero}
 use Rattle.perms.proofs.Tower.{tower-is, tower-extend}
 use Rattle.perms.proofs.Standard.{word-standard, cycles-snoc, imagesOf-word}
@@ -33,6 +35,18 @@ word-extend : (m : ℕ) (x w : List ℕ) → Word m x → rgtWord x (extend (m +
 unfolding rgtWord
 word-extend m [] w a = refl
 word-extend m (i ∷ x) w a = let l : Letter m i = a .0 in rw (rgt-above i (m + 2) (omega arith) w) (word-extend m x (rgt i w) (a .1))
+
+-- u with one more fixed point, times a(m + 1, k)
+pub extend-product : {m : ℕ} (k : ℕ) (u : List ℕ) → Perm m u → k ≤ suc m
+    → product (u ++ ((m + 2) ∷ [])) (ofWord (suc m) (cycle (suc m) k)) ≡ extend (m + 2 - k) u
+extend-product {m} k u p h =
+    ap (λ w. product w (ofWord (suc m) x)) (sym (extend-snoc (m + 2) u (λ i l. omega (arith, perm-image u p i l))))
+    ∙ product-ofWord x (extend (m + 2) u) (word-cycle (suc m) (suc m) k (omega arith) h) (perm-extend record { low = omega arith; high = omega arith; rest = p })
+    ∙ ap (λ c. rgtWord x (extend c u)) (omega arith)
+    ∙ cycle-makes (suc m) k (m + 2 - k) u (omega arith) (omega arith)
+  where
+    x : List ℕ
+    x = cycle (suc m) k
 
 rgtWord-append : (x y w : List ℕ) → rgtWord (x ++ y) w ≡ rgtWord y (rgtWord x w)
 unfolding rgtWord

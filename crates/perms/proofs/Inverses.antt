@@ -1,5 +1,5 @@
--- The inverse at an index is the point whose image is there; it is the only list that holds each point at the index of its image. Rests on Image
--- and Products.
+-- The inverse at an index is the point whose image is there; it is the only list that holds each point at the index of its image. Rests on First,
+-- Range and Image.
 use mathlib.Core.Path.{_≡_, sym, ap, _∙_}
 use mathlib.Core.List.{List}
 use Prim.Native.Nat.{ℕ, suc, pred, _≤_, _<_}
@@ -29,7 +29,7 @@ image-inverse w c i h = rw at-i (go (perm-at w c (suc i) (omega arith) (omega (a
     find v = first (λ p. same (image w p) v) 1 n
 
     at-i : getD (inverse w) i 0 ≡ find (suc i)
-    at-i = getD-map find (range 1 n) i (omega (arith, length-range 1 n)) ∙ ap find (omega (arith, getD-range 1 n i h))
+    at-i = getD-map find (range 1 n) i 0 0 (omega (arith, length-range 1 n)) ∙ ap find (omega (arith, getD-range 1 n i h))
 
     go : At (suc i) w → (image w (find (suc i)) ≡ suc i) × (1 ≤ find (suc i)) × (find (suc i) ≤ n)
     go r =

@@ -1,15 +1,16 @@
--- A generator on the right swaps two values of an image list, on the left two positions; on the right it keeps permutations. No value stands
--- twice in a permutation. Rests on Swap and Tally.
-use mathlib.Core.Path.{_≡_, refl, ap, _∙_}
-use mathlib.Core.List.{List, [], _∷_, map}
+-- A generator on the right swaps two values of an image list, on the left two positions. Each undoes itself and keeps permutations, and the
+-- two commute. No value stands twice in a permutation. Rests on Swap and Tally.
+use mathlib.Core.Path.{_≡_, refl, ap, _∙_, fun-ext}
+use mathlib.Core.Bool.{Bool}
+use mathlib.Core.List.{List, [], _∷_, map, map-map, map-id}
 use Prim.Native.Nat.{ℕ, zero, suc, pred, _+_, _≤_}
 use native.Mathlib.Omega.{arith}
 use lib.ListN.{length, length-map}
-use Rattle.perms.specs.Lists.{same, count, tally}
+use Rattle.perms.specs.Lists.{same, bit, count, tally}
 use Rattle.perms.specs.Permutation.{Perm, Letter, swap}
 use Rattle.perms.proofs.Test.{LessView, lt, ge, less?}
 use Rattle.perms.proofs.Tally.{tally-map}
-use Rattle.perms.proofs.Swap.{same-swap, swap-low, swap-high, swap-off}
+use Rattle.perms.proofs.Swap.{swap-swap, same-swap, swap-low, swap-high, swap-off}
 
 -- ---- the two actions
 
@@ -34,9 +35,49 @@ swapAt (suc p) (x ∷ w) = x ∷ swapAt p w
 unfoldable pub lft : ℕ → List ℕ → List ℕ
 lft i w = swapAt (pred i) w
 
-count-rgt : (i v : ℕ) (w : List ℕ) → count v (rgt i w) ≡ count (swap i v) w
+pub rgt-rgt : (i : ℕ) (w : List ℕ) → rgt i (rgt i w) ≡ w
+unfolding rgt
+rgt-rgt i w = map-map (swap i) (swap i) w ∙ ap (λ f. map f w) (fun-ext (swap-swap i)) ∙ map-id w
+
+swapAt-swapAt : (p : ℕ) (w : List ℕ) → swapAt p (swapAt p w) ≡ w
+swapAt-swapAt zero [] = refl
+swapAt-swapAt zero (x ∷ []) = refl
+swapAt-swapAt zero (x ∷ y ∷ w) = refl
+swapAt-swapAt (suc p) [] = refl
+swapAt-swapAt (suc p) (x ∷ w) = ap {B = List ℕ} (λ r. x ∷ r) (swapAt-swapAt p w)
+
+pub lft-lft : (i : ℕ) (w : List ℕ) → lft i (lft i w) ≡ w
+unfolding lft
+lft-lft i w = swapAt-swapAt (pred i) w
+
+swapAt-map : (f : ℕ → ℕ) (p : ℕ) (w : List ℕ) → swapAt p (map f w) ≡ map f (swapAt p w)
+swapAt-map f zero [] = refl
+swapAt-map f zero (x ∷ []) = refl
+swapAt-map f zero (x ∷ y ∷ w) = refl
+swapAt-map f (suc p) [] = refl
+swapAt-map f (suc p) (x ∷ w) = ap {B = List ℕ} (λ r. f x ∷ r) (swapAt-map f p w)
+
+pub lft-rgt : (i j : ℕ) (w : List ℕ) → lft i (rgt j w) ≡ rgt j (lft i w)
+unfolding lft rgt
+lft-rgt i j w = swapAt-map (swap j) (pred i) w
+
+-- ---- what stands in the list
+
+pub count-rgt : (i v : ℕ) (w : List ℕ) → count v (rgt i w) ≡ count (swap i v) w
 unfolding count rgt
 count-rgt i v w = tally-map (λ x. same x v) (λ x. same x (swap i v)) (swap i) (λ x. same-swap i x v) w
+
+pub tally-swapAt : (t : ℕ → Bool) (p : ℕ) (w : List ℕ) → tally t (swapAt p w) ≡ tally t w
+unfolding tally
+tally-swapAt t zero [] = refl
+tally-swapAt t zero (x ∷ []) = refl
+tally-swapAt t zero (x ∷ y ∷ w) = omega arith
+tally-swapAt t (suc p) [] = refl
+tally-swapAt t (suc p) (x ∷ w) = ap (λ n. bit (t x) + n) (tally-swapAt t p w)
+
+count-lft : (i v : ℕ) (w : List ℕ) → count v (lft i w) ≡ count v w
+unfolding count lft
+count-lft i v w = tally-swapAt (λ x. same x v) (pred i) w
 
 pub swapAt-length : (p : ℕ) (w : List ℕ) → length (swapAt p w) ≡ length w
 swapAt-length zero [] = refl
@@ -54,6 +95,15 @@ perm-rgt {m} {i} {w} l c = record {
   once = λ v a b. count-rgt i v w ∙ c .once (swap i v) (swap-low v (l .low) a) (swap-high v (l .high) b);
   none = λ v a. count-rgt i v w ∙ ap (λ x. count x w) (swap-off i v (omega arith) (omega arith)) ∙ c .none v a;
   zeroth = count-rgt i 0 w ∙ ap (λ x. count x w) (swap-off i 0 (omega arith) (omega arith)) ∙ c .zeroth;
+}
+
+pub perm-lft : {m : ℕ} (i : ℕ) {w : List ℕ} → Perm m w → Perm m (lft i w)
+unfolding lft
+perm-lft i {w} c = record {
+  size = swapAt-length (pred i) w ∙ c .size;
+  once = λ v a b. count-lft i v w ∙ c .once v a b;
+  none = λ v a. count-lft i v w ∙ c .none v a;
+  zeroth = count-lft i 0 w ∙ c .zeroth;
 }
 
 -- ---- no value stands twice

@@ -1,4 +1,5 @@
--- Products of image lists: a generator on either side acts as in Perm, and a product of words is the joined word. Rests on Range and Image.
+-- Products of image lists: a generator on either side and a word on the right act as in Perm, and a product of words is the joined word. Rests on
+-- Range and Image.
 use mathlib.Core.Path.{_≡_, sym, ap, _∙_}
 use mathlib.Core.List.{List, [], _∷_, _++_, map, map-map, map-id}
 use Prim.Native.Nat.{ℕ, zero, suc, pred, _+_, _≤_, _<_}
@@ -21,7 +22,7 @@ length-product u v = length-map u (image v)
 -- with i = p - 1: the image of p under uv is the image under v of that under u
 pub image-product : (u v : List ℕ) (i : ℕ) → i < length u → getD (product u v) i 0 ≡ image v (getD u i 0)
 unfolding product
-image-product u v i h = getD-map (image v) u i h
+image-product u v i h = getD-map (image v) u i 0 0 h
 
 pub image-identity : (m p : ℕ) → 1 ≤ p → p ≤ m + 1 → image (identity m) p ≡ p
 unfolding identity
@@ -30,7 +31,7 @@ image-identity m p a b = omega (arith, getD-range 1 (m + 1) (pred p) (omega arit
 image-generator : (m i p : ℕ) → 1 ≤ p → p ≤ m + 1 → image (generator m i) p ≡ swap i p
 unfolding generator
 image-generator m i p a b =
-    getD-map (swap i) (identity m) (pred p) (omega (arith, perm-identity m .size))
+    getD-map (swap i) (identity m) (pred p) 0 0 (omega (arith, perm-identity m .size))
     ∙ ap (swap i) (image-identity m p a b)
 
 -- two functions that agree on the points do the same to a permutation
@@ -38,7 +39,7 @@ map-perm : {m : ℕ} (f g : ℕ → ℕ) (w : List ℕ) → Perm m w → ((p : �
 map-perm f g w c h = ext-getD 0 (map f w) (map g w) (length-map w f ∙ sym (length-map w g)) (λ i k. at i (omega (arith, length-map w f)))
   where
     at : (i : ℕ) → i < length w → getD (map f w) i 0 ≡ getD (map g w) i 0
-    at i k = let p = perm-image w c i k in getD-map f w i k ∙ h (getD w i 0) (p .0) (p .1) ∙ sym (getD-map g w i k)
+    at i k = let p = perm-image w c i k in getD-map f w i 0 0 k ∙ h (getD w i 0) (p .0) (p .1) ∙ sym (getD-map g w i 0 0 k)
 
 -- ---- the laws of the product
 
@@ -73,7 +74,7 @@ pub product-generator : {m : ℕ} (i : ℕ) (w : List ℕ) → Perm m w → Lett
 unfolding product rgt
 product-generator {m} i w c l = map-perm (image (generator m i)) (swap i) w c (image-generator m i)
 
-getD-swapAt : (p : ℕ) (w : List ℕ) (k : ℕ) → suc p < length w → getD (swapAt p w) k 0 ≡ getD w (swap p k) 0
+pub getD-swapAt : (p : ℕ) (w : List ℕ) (k : ℕ) → suc p < length w → getD (swapAt p w) k 0 ≡ getD w (swap p k) 0
 getD-swapAt p [] k h = absurd (omega arith)
 getD-swapAt zero (x ∷ []) k h = absurd (omega arith)
 getD-swapAt zero (x ∷ y ∷ w) zero h = ap (λ n. getD (x ∷ y ∷ w) n 0) (sym (swap-lo 0))
@@ -106,7 +107,7 @@ unfolding ofWord
 length-ofWord m [] = perm-identity m .size
 length-ofWord m (i ∷ x) = length-product (generator m i) (ofWord m x) ∙ length-generator m i
 
-product-ofWord : {m : ℕ} (x u : List ℕ) → Word m x → Perm m u → product u (ofWord m x) ≡ rgtWord x u
+pub product-ofWord : {m : ℕ} (x u : List ℕ) → Word m x → Perm m u → product u (ofWord m x) ≡ rgtWord x u
 unfolding ofWord rgtWord
 product-ofWord [] u a c = product-identity u c
 product-ofWord {m} (i ∷ x) u a c =

@@ -1,29 +1,20 @@
 -- Proposition 2.6: the four lines on a(m, k) a(j, l). Rests on Cycle: on points, an injective function that takes the points of a word's letters
 -- to their neighbours, or leaves them, carries the word along.
-use mathlib.Core.Path.{_≡_, refl, sym, ap, ap₂, _∙_, fun-ext}
-use mathlib.Core.List.{map}
+use mathlib.Core.Path.{_≡_, refl, sym, ap, _∙_, fun-ext}
+use mathlib.Core.List.{map, _++_}
 use Prim.Native.Nat.{ℕ, zero, suc, _+_, _-_, _≤_, _<_}
-use native.Mathlib.Nat.{add-zero, zero-add}
 use native.Mathlib.Omega.{arith}
 use Rattle.perms.specs.Permutation.{identity, swap, product}
 use Rattle.perms.specs.Tower.{cycle}
 use Rattle.perms.specs.Laws.{a, Proposition2-6}
-use Rattle.perms.proofs.Swap.{SwapView, lo, hi, off, swap?, swap-swap, swap-off, swap-lo, swap-hi}
-use Rattle.perms.proofs.Word.{word-cycle}
-use Rattle.perms.proofs.Walk.{walk, walk-injective, ofWord-walk, product-walk}
+use Rattle.perms.proofs.Swap.{swap-swap, swap-carry}
+use Rattle.perms.proofs.Word.{word-cycle, cycle-add}
+use Rattle.perms.proofs.Walk.{walk, walk-injective, walk-append, ofWord-walk, product-walk}
 use Rattle.perms.proofs.Cycle.{cycle-below, cycle-within}
 
 -- ---- on points
 
 module _ (f : ℕ → ℕ) (injective : (u v : ℕ) → f u ≡ f v → u ≡ v) where
-  carry-swap : (i k v : ℕ) → f i ≡ k → f (suc i) ≡ suc k → f (swap i v) ≡ swap k (f v)
-  carry-swap i k v p q = go (swap? i v)
-    where
-      go : SwapView i v → f (swap i v) ≡ swap k (f v)
-      go (lo d e) = ap f e ∙ q ∙ sym (swap-lo k) ∙ ap (swap k) (sym (ap f d ∙ p))
-      go (hi d e) = ap f e ∙ p ∙ sym (swap-hi k) ∙ ap (swap k) (sym (ap f d ∙ q))
-      go (off b c e) = ap f e ∙ sym (swap-off k (f v) (λ d. b (injective v i (d ∙ sym p))) (λ d. c (injective v (suc i) (d ∙ sym q))))
-
   -- f moves the points i - l + 1 to i + 1 by k - i
   carry-cycle : (i k l v : ℕ) → l ≤ i → l ≤ k → ((p : ℕ) → i < p + l → p ≤ suc i → f p + i ≡ p + k) → walk (cycle k l) (f v) ≡ f (walk (cycle i l) v)
   unfolding cycle walk
@@ -33,16 +24,14 @@ module _ (f : ℕ → ℕ) (injective : (u v : ℕ) → f u ≡ f v → u ≡ v)
   carry-cycle (suc i) (suc k) (suc l) v a b h =
       let p : f (suc i) ≡ suc k = omega (arith, h (suc i) (omega arith) (omega arith)) in
       let q : f (suc (suc i)) ≡ suc (suc k) = omega (arith, h (suc (suc i)) (omega arith) (omega arith)) in
-      ap (walk (cycle k l)) (sym (carry-swap (suc i) (suc k) v p q))
+      ap (walk (cycle k l)) (sym (swap-carry f injective (suc i) (suc k) v p q))
       ∙ carry-cycle i k l (swap (suc i) v) (omega arith) (omega arith) (λ x c d. omega (arith, h x (omega arith) (omega arith)))
 
 -- a(i, k + l) is a(i, k) a(i - k, l)
 walk-split : (i j k l n v : ℕ) → i ≡ j + k → n ≡ k + l → walk (cycle i n) v ≡ walk (cycle j l) (walk (cycle i k) v)
-unfolding cycle walk
-walk-split i j zero l n v d e = ap₂ {C = ℕ} (λ i n. walk (cycle i n) v) (d ∙ add-zero j) (e ∙ zero-add l)
-walk-split zero j (suc k) l n v d e = absurd (omega arith)
-walk-split (suc i) j (suc k) l zero v d e = absurd (omega arith)
-walk-split (suc i) j (suc k) l (suc n) v d e = walk-split i j k l n (swap (suc i) v) (omega arith) (omega arith)
+walk-split i j k l n v d e =
+    ap (λ x. walk x v) (ap (cycle i) e ∙ cycle-add i k l ∙ ap (λ h. cycle i k ++ cycle h l) (omega arith))
+    ∙ walk-append (cycle i k) (cycle j l) v
 
 walk-apart : (m j k l v : ℕ) → j + k < m → l ≤ j → walk (cycle j l) (walk (cycle m k) v) ≡ walk (cycle m k) (walk (cycle j l) v)
 walk-apart m j k l v h b =

@@ -1,8 +1,9 @@
--- Lists by index: a range and a mapped list. A range by count; the identity is a permutation. Rests on Test.
-use mathlib.Core.Path.{_≡_, refl, ap}
-use mathlib.Core.List.{List, [], _∷_, map}
-use Prim.Native.Nat.{ℕ, zero, suc, _+_, _<_}
-use native.Mathlib.Nat.{le-of-suc-le-suc}
+-- Ranges of numbers: by index, joined and shifted, by their members and by count; the identity is a permutation. A mapped list by index. Rests on
+-- Test.
+use mathlib.Core.Path.{_≡_, refl, ap, _∙_}
+use mathlib.Core.List.{List, [], _∷_, _++_, map, List·Memᴰ, List·Memᴰ·head, List·Memᴰ·tail}
+use Prim.Native.Nat.{ℕ, zero, suc, _+_, _≤_, _<_}
+use native.Mathlib.Nat.{le-of-suc-le-suc, zero-add, add-zero, suc-add, add-suc}
 use native.Mathlib.Omega.{arith}
 use lib.ListN.{length, getD}
 use Rattle.perms.specs.Lists.{same, less, bit, range, count, tally}
@@ -20,12 +21,31 @@ getD-range a zero i h = absurd (omega arith)
 getD-range a (suc n) zero h = omega arith
 getD-range a (suc n) (suc i) h = omega (arith, getD-range (suc a) n i (le-of-suc-le-suc h))
 
-pub getD-map : (f : ℕ → ℕ) (w : List ℕ) (i : ℕ) → i < length w → getD (map f w) i 0 ≡ f (getD w i 0)
-getD-map f [] i h = absurd (omega arith)
-getD-map f (x ∷ w) zero h = refl
-getD-map f (x ∷ w) (suc i) h = getD-map f w i (le-of-suc-le-suc h)
+pub getD-map : {A B : Type 0} (f : A → B) (s : List A) (i : ℕ) (a : A) (b : B) → i < length s → getD (map f s) i b ≡ f (getD s i a)
+getD-map f [] i a b h = absurd (omega arith)
+getD-map f (x ∷ s) zero a b h = refl
+getD-map f (x ∷ s) (suc i) a b h = getD-map f s i a b (le-of-suc-le-suc h)
 
-less-step : (v a : ℕ) → bit (less v a) + bit (same a v) ≡ bit (less v (suc a))
+-- ---- joined and shifted ranges, and their members
+
+pub range-append : (a n k : ℕ) → range a (n + k) ≡ range a n ++ range (a + n) k
+unfolding range
+range-append a zero k = simp (zero-add, add-zero)
+range-append a (suc n) k = simp (suc-add, add-suc) (ap {B = List ℕ} (λ t. a ∷ t) (simp suc-add at (range-append (suc a) n k)))
+
+pub range-shift : (d a n : ℕ) → map (λ p. p + d) (range a n) ≡ range (a + d) n
+unfolding range
+range-shift d a zero = refl
+range-shift d a (suc n) = ap {B = List ℕ} (λ t. (a + d) ∷ t) (range-shift d (suc a) n ∙ ap (λ b. range b n) (suc-add a d))
+
+pub mem-range : {i : ℕ} (a n : ℕ) → List·Memᴰ i (range a n) → (a ≤ i) × (i < a + n)
+unfolding range
+mem-range a (suc n) (List·Memᴰ·head e) = (omega arith, omega arith)
+mem-range a (suc n) (List·Memᴰ·tail t) = let h = mem-range (suc a) n t in (omega (arith, h), omega (arith, h))
+
+-- ---- a range by count
+
+pub less-step : (v a : ℕ) → bit (less v a) + bit (same a v) ≡ bit (less v (suc a))
 less-step v a = go (less? v a) (same? a v) (less? v (suc a))
   where
     go : LessView v a → SameView a v → LessView v (suc a) → bit (less v a) + bit (same a v) ≡ bit (less v (suc a))

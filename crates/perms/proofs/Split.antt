@@ -13,7 +13,7 @@ use Rattle.perms.proofs.Extend.{BumpView, under, over, bump?, bump-unde
 
 -- ---- how often a value stands in an extended list
 
-same-bump : (c v : ℕ) → same (bump c v) c ≡ false
+pub same-bump : (c v : ℕ) → same (bump c v) c ≡ false
 same-bump c v = go (bump? c v)
   where
     go : BumpView c v → same (bump c v) c ≡ false
@@ -25,19 +25,19 @@ unfolding extend count tally
 count-extend c [] = rw (same-yes {x = c} {a = c} refl)
 count-extend c (x ∷ u) = rw (same-bump c x) (omega (arith, count-extend c u))
 
-same-under : (c a v : ℕ) → a < c → same (bump c v) a ≡ same v a
+pub same-under : (c a v : ℕ) → a < c → same (bump c v) a ≡ same v a
 same-under c a v h = go (bump? c v)
   where
     go : BumpView c v → same (bump c v) a ≡ same v a
     go (under p e) = ap (λ x. same x a) e
     go (over p e) = same-no (omega arith) ∙ sym (same-no (omega arith))
 
-count-under : (c v : ℕ) (u : List ℕ) → v < c → count v (extend c u) ≡ count v u
+pub count-under : (c v : ℕ) (u : List ℕ) → v < c → count v (extend c u) ≡ count v u
 unfolding extend count tally
 count-under c v [] h = rw (same-no {x = c} {a = v} (omega arith))
 count-under c v (x ∷ u) h = ap₂ (λ a b. bit a + b) (same-under c v x h) (count-under c v u h)
 
-same-over : (c a v : ℕ) → c ≤ a → same (bump c v) (suc a) ≡ same v a
+pub same-over : (c a v : ℕ) → c ≤ a → same (bump c v) (suc a) ≡ same v a
 same-over c a v h = go (bump? c v) (same? v a)
   where
     go : BumpView c v → SameView v a → same (bump c v) (suc a) ≡ same v a

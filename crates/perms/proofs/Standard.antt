@@ -1,14 +1,18 @@
--- The standard word of a tower: it is a word, each entry adds the word of its cycle, and its product is that of the cycles. Rests on Word and Products.
+-- The standard word of a tower: it is a word, each entry adds the word of its cycle, so the last image of a permutation does, and its product is
+-- that of the cycles. Rests on Word, Products and Tower.
 use mathlib.Core.Path.{_≡_, refl, sym, ap, _∙_}
 use mathlib.Core.List.{List, [], _∷_, _++_, append-nil, append-assoc}
-use Prim.Native.Nat.{ℕ, suc, _+_, _≤_, _<_}
+use Prim.Native.Nat.{ℕ, suc, _+_, _-_, _≤_, _<_}
 use native.Mathlib.Omega.{arith}
 use lib.ListN.{length, getD, take}
 use lib.Seq.{length-take-le, take-suc}
 use Rattle.perms.specs.Permutation.{Word, ofWord, product}
-use Rattle.perms.specs.Tower.{Tower, cycle, cycles, standard, ofCycles, imagesOf}
+use Rattle.perms.specs.Extend.{extend}
+use Rattle.perms.specs.Tower.{towerOf, Tower, cycle, cycles, standard, ofCycles, imagesOf}
 use Rattle.perms.proofs.Word.{word-append, word-cycle}
 use Rattle.perms.proofs.Products.{ofWord-append}
+use Rattle.perms.proofs.Split.{Tail}
+use Rattle.perms.proofs.Tower.{length-tower, tower-extend}
 
 word-cycles : (m j : ℕ) (t : List ℕ) → j + length t ≤ suc m → ((i : ℕ) → getD t i 0 ≤ j + i) → Word m (cycles j t)
 unfolding cycles
@@ -33,6 +37,12 @@ unfolding standard
 standard-take t k h =
     ap (cycles 1) (take-suc t k 0 h) ∙ cycles-snoc 1 (getD t k 0) (take k t)
     ∙ ap (λ j. cycles 1 (take k t) ++ cycle j (getD t k 0)) (omega (arith, length-take-le k t (omega arith)))
+
+pub standard-extend : {m : ℕ} (c : ℕ) (u : List ℕ) → Tail m c u → standard (towerOf (extend c u)) ≡ standard (towerOf u) ++ cycle (suc m) (m + 2 - c)
+unfolding standard
+standard-extend {m} c u t =
+    ap (cycles 1) (tower-extend c u t) ∙ cycles-snoc 1 (m + 2 - c) (towerOf u)
+    ∙ ap (λ j. cycles 1 (towerOf u) ++ cycle j (m + 2 - c)) (omega (arith, length-tower u, t .rest .size))
 
 cycles-word : (m j : ℕ) (t : List ℕ) → j + length t ≤ suc m → ((i : ℕ) → getD t i 0 ≤ j + i) → ofCycles m j t ≡ ofWord m (cycles j t)
 unfolding ofCycles cycles ofWord

@@ -61,6 +61,13 @@ less-no {x} {a} p = go (less? x a)
     go (lt q e) = absurd (omega arith)
     go (ge n e) = e
 
+pub same-sym : (x a : ℕ) → same x a ≡ same a x
+same-sym x a = go (same? x a)
+  where
+    go : SameView x a → same x a ≡ same a x
+    go (is p e) = e ∙ sym (same-yes (sym p))
+    go (isnt n e) = e ∙ sym (same-no (λ p. n (sym p)))
+
 -- and the facts from the tests
 pub same-true : (x a : ℕ) → same x a ≡ true → x ≡ a
 same-true x a t = go (same? x a)

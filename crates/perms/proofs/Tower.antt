@@ -23,7 +23,7 @@ pub getD-tower : (w : List ℕ) (i : ℕ) → suc i < length w → getD (towerOf
 unfolding towerOf
 getD-tower w i h =
     let k : i < pred (length w) = omega arith in
-    getD-map (λ j. entry j w) (range 1 (pred (length w))) i (omega (arith, length-range 1 (pred (length w))))
+    getD-map (λ j. entry j w) (range 1 (pred (length w))) i 0 0 (omega (arith, length-range 1 (pred (length w))))
     ∙ ap (λ j. entry j w) (omega (arith, getD-range 1 (pred (length w)) i k))
 
 pub length-tower : (w : List ℕ) → length (towerOf w) ≡ pred (length w)
@@ -64,7 +64,7 @@ above-bump : (c x : ℕ) (u : List ℕ) → above (bump c x) (map (bump c) u) �
 unfolding above
 above-bump c x u = tally-map (λ y. less (bump c x) y) (λ y. less x y) (bump c) (λ y. less-bump c x y) u
 
-entry-extend : (c j : ℕ) (u : List ℕ) → j < length u → entry j (extend c u) ≡ entry j u
+pub entry-extend : (c j : ℕ) (u : List ℕ) → j < length u → entry j (extend c u) ≡ entry j u
 unfolding entry
 entry-extend c j u h = ap₂ above (getD-extend c j u h) (take-extend c j u (omega arith)) ∙ above-bump c (getD u j 0) (take j u)
 
@@ -79,7 +79,7 @@ pub above-perm : {m : ℕ} (u : List ℕ) → Perm m u → (k c : ℕ) → c + k
 above-perm u p zero c h = above-none c u (λ v l. p .none v (omega arith))
 above-perm u p (suc k) c h = omega (arith, above-step c u, p .once (suc c) (omega arith) (omega arith), above-perm u p k (suc c) (omega arith))
 
-entry-last : {m : ℕ} (c : ℕ) (u : List ℕ) → Tail m c u → entry (length u) (extend c u) ≡ m + 2 - c
+pub entry-last : {m : ℕ} (c : ℕ) (u : List ℕ) → Tail m c u → entry (length u) (extend c u) ≡ m + 2 - c
 unfolding entry
 entry-last zero u t = absurd (omega (arith, t .low))
 entry-last {m} (suc c) u t =

@@ -18,7 +18,7 @@ unfolding walk
 walk-injective [] u v e = e
 walk-injective (i ∷ x) u v e = sym (swap-swap i u) ∙ ap (swap i) (walk-injective x (swap i u) (swap i v) e) ∙ swap-swap i v
 
-walk-append : (x y : List ℕ) (v : ℕ) → walk (x ++ y) v ≡ walk y (walk x v)
+pub walk-append : (x y : List ℕ) (v : ℕ) → walk (x ++ y) v ≡ walk y (walk x v)
 unfolding walk
 walk-append [] y v = refl
 walk-append (i ∷ x) y v = walk-append x y (swap i v)

@@ -1,4 +1,4 @@
--- The two ways a call that writes a list ends: it is refused, or its lists are accepted, its buffer fits and it writes. Rests on Verdicts.
+-- The two ways a call that writes a list ends: it is refused, or its lists are accepted, its buffer fits and it writes. Rests on the definitions alone.
 use mathlib.Core.Path.{_≡_, refl, sym, ap, _∙_}
 use mathlib.Core.List.{List}
 use Prim.Native.Nat.{ℕ, suc, _+_, _≤_}
