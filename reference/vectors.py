@@ -1,4 +1,4 @@
-"""The stored vectors: inputs and expected outputs of the test programs, made by this program.
+"""The stored vectors: inputs and expected outputs of the test programs, and the table that `algebra` computes, made by this program.
 
     python3 -m reference.vectors            write the files
     python3 -m reference.vectors --check    say which files differ from what is made today, and fail if one does
@@ -8,6 +8,7 @@ import sys
 from itertools import chain
 from pathlib import Path
 
+from reference import algebra
 from reference import permutations as p
 from reference.algebra import WORD
 from reference.refusals import Refused
@@ -211,11 +212,50 @@ def perms_vectors():
     yield 'crates/perms_vectors/stdout', ''.join(line(*v) for v in vectors).encode()
 
 
+# ---- the algebra
+#
+# The definitions of the crate `algebra` are computed by the prover, so their vectors are a table in its language.
+
+def numbers(a):
+    return ''.join(f'{x} ∷ ' for x in a) + '[]'
+
+
+def product_vector(source, m, l, q):
+    """Random elements of ranks m and l with words of all sizes, their product, and its count."""
+    h, g = ([source.randrange(2 ** source.choice((2, 8, 64))) for _ in range(algebra.size(n))] for n in (m, l))
+    padded = g + [0] * (algebra.size(m) - algebra.size(l))
+    hg = algebra.product(m, q, h, padded)
+    return f'vector {m} {l} {q} ({numbers(h)}) ({numbers(g)}) ({numbers(hg)}) {algebra.product_count(m, l)}'
+
+
+def algebra_vectors():
+    """Products of elements of rank m with elements of rank l ≤ m ≤ 2, for each of six q, and one of rank 3."""
+    source = random.Random(0)
+    rows = [product_vector(source, m, l, q) for m in range(3) for l in range(m + 1) for q in (0, 1, 2, 3, 10, WORD - 1)]
+    rows.append(product_vector(source, 3, 3, 3))
+    table = '    ' + '\n    ∷ '.join(rows + ['[]']) + '\n'
+    yield 'crates/algebra/proofs/Vectors.antt', (VECTORS_HEAD + table).encode()
+
+
+VECTORS_HEAD = '''-- Products as the reference program computes them: written by `python3 -m reference.vectors`.
+--
+--   vector m l q h g k n    h of rank m times g of rank l is k, and takes n ring operations
+use mathlib.Core.List.{List, [], _∷_}
+use Prim.Native.Nat.{ℕ}
+
+pub data Vector : Type 0 where
+  vector : ℕ → ℕ → ℕ → List ℕ → List ℕ → List ℕ → ℕ → Vector
+
+abbrev pub vectors : List Vector
+vectors =
+'''
+
+
 def main(arguments):
     if arguments not in ([], ['--check']):
         sys.exit(__doc__)
     stale = []
-    for name, contents in chain(ring_vectors(), perms_vectors()):
+    for name, contents in chain(ring_vectors(), perms_vectors(), algebra_vectors()):
         path = ROOT / name
         if not arguments:
             path.write_bytes(contents)

@@ -1,0 +1,52 @@
+-- The definitions agree with the reference program on each of its vectors: product over permutations, nested method with its count, and C; by
+-- computation. Rests on Vectors and on the definitions alone.
+use mathlib.Core.Path.{_≡_, refl}
+use mathlib.Core.List.{List, map}
+use Prim.Native.Nat.{ℕ}
+use Rattle.ring.specs.Modular.{modular, words}
+use Rattle.perms.specs.Lists.{same, less, range, tally}
+use Rattle.perms.specs.Permutation.{product, identity, swap, generator, ofWord, below, len}
+use Rattle.perms.specs.Tower.{above, entry, towerOf, cycle, cycles, standard}
+use Rattle.algebra.specs.Numbers.{factorial, series}
+use Rattle.algebra.specs.Blocks.{block, blocks}
+use Rattle.algebra.specs.Place.{place, join, perms}
+use Rattle.algebra.specs.Element.{coefficient, element, plus, scale, sumOver}
+use Rattle.algebra.specs.Product.{minusOne, letter, act, times}
+use Rattle.algebra.specs.Nested.{operations, both, free, onward, _⧺_, row, _⊞_, _⊠_, sumRow, part, level, nestedAct, nested}
+use Rattle.algebra.specs.Cost.{cLine, c, C}
+use Rattle.algebra.proofs.Vectors.{Vector, vector, vectors}
+
+abbrev result : Vector → List ℕ
+result (vector m l q h g k n) = k
+
+abbrev count : Vector → ℕ
+count (vector m l q h g k n) = n
+
+abbrev defined : Vector → List ℕ
+defined (vector m l q h g k n) = times ℕ words q (minusOne ℕ words q) m l h g
+
+abbrev method : Vector → List ℕ
+method (vector m l q h g k n) = nested ℕ words q (minusOne ℕ words q) m l h g .value
+
+abbrev recursion : Vector → ℕ
+recursion (vector m l q h g k n) = C m l
+
+abbrev counted : Vector → ℕ
+counted (vector m l q h g k n) = operations (nested ℕ words q (minusOne ℕ words q) m l h g .count)
+
+pub products : map defined vectors ≡ map result vectors
+unfolding modular words same less range tally product identity swap generator ofWord below len above entry towerOf cycle cycles standard
+    factorial series blocks place join perms coefficient element plus scale sumOver minusOne letter act times
+products = refl
+
+pub method-products : map method vectors ≡ map result vectors
+unfolding modular words factorial plus scale minusOne block both free onward _⧺_ row _⊞_ _⊠_ sumRow part level nestedAct nested
+method-products = refl
+
+pub method-counts : map counted vectors ≡ map count vectors
+unfolding modular words factorial plus scale minusOne block both free onward _⧺_ row _⊞_ _⊠_ sumRow part level nestedAct nested operations
+method-counts = refl
+
+pub recursions : map recursion vectors ≡ map count vectors
+unfolding factorial series cLine c C
+recursions = refl

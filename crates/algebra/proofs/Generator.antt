@@ -1,0 +1,43 @@
+-- The two actions of a generator on functions of a permutation, which commute. Rests on Ascent and TwoSides of `perms`.
+--
+--   step b x y    formula 4.1 at a permutation w: b tells whether its neighbour is longer, x is the coefficient there, and y that at w
+--   R i F         F T_i, by the neighbours w s_i
+--   L i F         T_i F, by the neighbours s_i w
+use mathlib.Core.Path.{_≡_, refl, ap, _∙_}
+use mathlib.Core.Bool.{Bool, true, false}
+use mathlib.Core.List.{List}
+use Prim.Native.Nat.{ℕ}
+use Rattle.ring.specs.Ring.{Ops, Ring}
+use Rattle.ring.proofs.Ring.{add-left-comm, mul-left-comm}
+use Rattle.perms.specs.Permutation.{Letter}
+use Rattle.perms.proofs.Perm.{rgt, lft, rgt-rgt, lft-lft, lft-rgt}
+use Rattle.perms.proofs.Ascent.{ascR, ascL}
+use Rattle.perms.proofs.TwoSides.{Sides, equal, other, sides}
+use Rattle.algebra.proofs.Functions.{Eq}
+
+module _ (A : Type 0) (o : Ops A) (q r : A) where
+  unfoldable pub step : Bool → A → A → A
+  step true x y = o .mul q x
+  step false x y = o .add x (o .mul r y)
+
+  unfoldable pub R : ℕ → (List ℕ → A) → List ℕ → A
+  R i F w = step (ascR i w) (F (rgt i w)) (F w)
+
+  unfoldable pub L : ℕ → (List ℕ → A) → List ℕ → A
+  L i F w = step (ascL i w) (F (lft i w)) (F w)
+
+  module _ (𝓡 : Ring A o) where
+    step-step : (a b : Bool) (x y z t : A) → step a (step b x y) (step b z t) ≡ step b (step a x z) (step a y t)
+    unfolding step
+    step-step true true x y z t = refl
+    step-step true false x y z t = simp (𝓡 .mul-add, mul-left-comm A o 𝓡 q r y)
+    step-step false true x y z t = simp (𝓡 .mul-add, mul-left-comm A o 𝓡 q r z)
+    step-step false false x y z t = simp (𝓡 .mul-add, 𝓡 .add-assoc, add-left-comm A o 𝓡 (o .mul r y) (o .mul r z) (o .mul r (o .mul r t)))
+
+    pub L-R : {m i : ℕ} (j : ℕ) (F : List ℕ → A) → Letter m i → Eq m (L i (R j F)) (R j (L i F))
+    unfolding L R
+    L-R {i = i} j F l w c = go (sides i j w l c)
+      where
+        go : Sides i j w → L i (R j F) w ≡ R j (L i F) w
+        go (equal b e x y x' y') = rw (ap (rgt j) e ∙ rgt-rgt j w, ← e, x, y, x', y', lft-lft)
+        go (other y x) = rw (y, x, lft-rgt) (step-step (ascL i w) (ascR j w) (F (rgt j (lft i w))) (F (lft i w)) (F (rgt j w)) (F w))

@@ -1,0 +1,76 @@
+-- The claims hold for the integers modulo N ≥ 1, and so for words, at N = 2^64, with r = q - 1. The coefficients that are meant are the numbers below N.
+-- Rests on Laws, Formula, Method, Onto, Carry, CarryMethod, Closed, Calls and ring's Modular.
+use mathlib.Core.Path.{_≡_, refl}
+use Prim.Native.Nat.{ℕ, _^_, _<_}
+use native.Mathlib.Nat.{mod-lt}
+use native.Mathlib.Omega.{arith}
+use Rattle.ring.specs.Modular.{modular, words, Residue, number, residues}
+use Rattle.ring.proofs.Modular.{residues-ring, number-hom, words-pos}
+use Rattle.algebra.specs.Product.{minusOne}
+use Rattle.algebra.specs.Laws.{Formula, Calls, defined, Laws, Hecke}
+use Rattle.algebra.specs.Method.{Method}
+use Rattle.algebra.proofs.Laws.{laws}
+use Rattle.algebra.proofs.Formula.{formula}
+use Rattle.algebra.proofs.Method.{method}
+use Rattle.algebra.proofs.Onto.{any, Onto}
+use Rattle.algebra.proofs.Carry.{carry}
+use Rattle.algebra.proofs.CarryMethod.{carry-formula, carry-method}
+use Rattle.algebra.proofs.Calls.{Agrees, Closed, same-laws}
+use Rattle.algebra.proofs.Closed.{closed}
+
+-- ---- the integers modulo N
+
+numbers : (N : ℕ) → Onto (number N) any (λ n. n < N)
+numbers N n h = record { of = (n, h); fit = tt; is = refl }
+
+module _ (N : ℕ) (pos : 0 < N) (m q r : ℕ) (hq : q < N) (hr : r < N) where
+  pub modular-laws : Laws ℕ (modular N) q r (λ n. n < N) m (defined ℕ (modular N) q r m)
+  modular-laws = carry (number-hom N pos) (q, hq) (r, hr) (numbers N) m (laws (Residue N) (residues N pos) (q, hq) (r, hr) m (residues-ring N pos) any)
+
+  pub modular-formula : Formula ℕ (modular N) q r (λ n. n < N) m
+  modular-formula = carry-formula (number-hom N pos) (q, hq) (r, hr) (numbers N) m
+      (formula (Residue N) (residues N pos) (q, hq) (r, hr) (residues-ring N pos) any m)
+
+  pub modular-method : Method ℕ (modular N) q r (λ n. n < N) m
+  modular-method = carry-method (number-hom N pos) (q, hq) (r, hr) (numbers N) m
+      (method (Residue N) (residues N pos) (q, hq) (r, hr) (residues-ring N pos) any m)
+
+  pub modular-closed : Closed ℕ (modular N) (λ n. n < N) m (defined ℕ (modular N) q r m)
+  modular-closed = closed (number-hom N pos) (q, hq) (r, hr) (numbers N) (λ a. a .1) m
+
+-- ---- words
+
+below : (q : ℕ) → minusOne ℕ words q < 2 ^ 64
+unfolding minusOne words modular
+below q = mod-lt _ words-pos
+
+one-less : (q : ℕ) → q < 2 ^ 64 → words .add (minusOne ℕ words q) (words .one) ≡ q
+unfolding minusOne words modular
+one-less q h = omega arith
+
+module _ (m q : ℕ) (hq : q < 2 ^ 64) where
+  word-laws : Laws ℕ words q (minusOne ℕ words q) (λ n. n < 2 ^ 64) m (defined ℕ words q (minusOne ℕ words q) m)
+  unfolding words
+  word-laws = modular-laws (2 ^ 64) words-pos m q (minusOne ℕ words q) hq (below q)
+
+  pub word-hecke : Hecke ℕ words q (minusOne ℕ words q) (λ n. n < 2 ^ 64) m (defined ℕ words q (minusOne ℕ words q) m)
+  word-hecke = record { minus-one = one-less q hq; laws = word-laws }
+
+  pub word-formula : Formula ℕ words q (minusOne ℕ words q) (λ n. n < 2 ^ 64) m
+  unfolding words
+  word-formula = modular-formula (2 ^ 64) words-pos m q (minusOne ℕ words q) hq (below q)
+
+  pub word-method : Method ℕ words q (minusOne ℕ words q) (λ n. n < 2 ^ 64) m
+  unfolding words
+  word-method = modular-method (2 ^ 64) words-pos m q (minusOne ℕ words q) hq (below q)
+
+  pub word-closed : Closed ℕ words (λ n. n < 2 ^ 64) m (defined ℕ words q (minusOne ℕ words q) m)
+  unfolding words
+  word-closed = modular-closed (2 ^ 64) words-pos m q (minusOne ℕ words q) hq (below q)
+
+  pub calls-hecke : (calls : Calls ℕ) → Agrees (λ n. n < 2 ^ 64) m calls (defined ℕ words q (minusOne ℕ words q) m)
+      → Hecke ℕ words q (minusOne ℕ words q) (λ n. n < 2 ^ 64) m calls
+  calls-hecke calls e = record {
+    minus-one = one-less q hq;
+    laws = same-laws ℕ words q (minusOne ℕ words q) (λ n. n < 2 ^ 64) m hq (below q) calls (defined ℕ words q (minusOne ℕ words q) m) e word-closed word-laws;
+  }

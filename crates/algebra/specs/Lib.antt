@@ -1,0 +1,10 @@
+pub mod Numbers
+pub mod Blocks
+pub mod Place
+pub mod Element
+pub mod Product
+pub mod Nested
+pub mod Cost
+pub mod Laws
+pub mod Method
+pub mod Maps
