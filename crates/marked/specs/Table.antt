@@ -1,19 +1,55 @@
 -- Document 01's marked cases as a table of facts about the definitions.
 --
 --   Case        a marked case: what is given, and what document 01 says of it
---   Holds c     the definitions give what document 01 says
+--   Holds c     the definitions give what document 01 says: the list of permutations and their places; the tower and its images; a square by the
+--               product over permutations and by the nested method; C and the count that the nested method carries
 --   table       the marked cases of the crates that stand, in document 01's order
 use mathlib.Core.Path.{_≡_}
-use mathlib.Core.List.{List, [], _∷_}
-use Prim.Native.Nat.{ℕ}
+use mathlib.Core.List.{List, [], _∷_, map}
+use Prim.Native.Nat.{ℕ, suc, _-_, _^_}
+use Rattle.ring.specs.Modular.{words}
+use Rattle.perms.specs.Lists.{range}
+use Rattle.perms.specs.Permutation.{ofWord}
 use Rattle.perms.specs.Tower.{towerOf, imagesOf}
+use Rattle.algebra.specs.Numbers.{factorial}
+use Rattle.algebra.specs.Place.{place, perms}
+use Rattle.algebra.specs.Element.{basis, unit}
+use Rattle.algebra.specs.Product.{minusOne, times}
+use Rattle.algebra.specs.Nested.{operations, nested}
+use Rattle.algebra.specs.Cost.{C}
 
 pub data Case : Type 0 where
+  -- a rank, and the permutations of the indices 0, 1, .. as words
+  indices : ℕ → List (List ℕ) → Case
   -- an image list and its tower
   images-tower : List ℕ → List ℕ → Case
+  -- a rank, q, a word of w, and the coefficients of T_w squared
+  square : ℕ → ℕ → List ℕ → List ℕ → Case
+  -- m, l and C(m, l)
+  count : ℕ → ℕ → ℕ → Case
+
+-- T of the permutation of a word
+abbrev basisOf : ℕ → List ℕ → List ℕ
+basisOf m x = basis ℕ words m (ofWord m x)
 
 abbrev pub Holds : Case → Type 0
+Holds (indices m s) = (perms m ≡ map (ofWord m) s) × (map place (map (ofWord m) s) ≡ range 0 (factorial (suc m)))
 Holds (images-tower w t) = (imagesOf t ≡ w) × (towerOf w ≡ t)
+Holds (square m q x h) =
+    (times ℕ words q (minusOne ℕ words q) m m (basisOf m x) (basisOf m x) ≡ h)
+    × (nested ℕ words q (minusOne ℕ words q) m m (basisOf m x) (basisOf m x) .value ≡ h)
+Holds (count m l n) = (C m l ≡ n) × (operations (nested ℕ words 3 2 m l (unit ℕ words m) (unit ℕ words l) .count) ≡ n)
 
 abbrev pub table : List Case
-table = images-tower (2 ∷ 3 ∷ 1 ∷ []) (0 ∷ 2 ∷ []) ∷ []
+table =
+    indices 2 ([] ∷ (1 ∷ []) ∷ (2 ∷ []) ∷ (1 ∷ 2 ∷ []) ∷ (2 ∷ 1 ∷ []) ∷ (1 ∷ 2 ∷ 1 ∷ []) ∷ [])
+    ∷ images-tower (2 ∷ 3 ∷ 1 ∷ []) (0 ∷ 2 ∷ [])
+    ∷ square 2 2 (2 ∷ 1 ∷ []) (0 ∷ 0 ∷ 0 ∷ 2 ∷ 0 ∷ 1 ∷ [])
+    ∷ square 1 0 (1 ∷ []) (0 ∷ (2 ^ 64 - 1) ∷ [])
+    ∷ square 1 1 (1 ∷ []) (1 ∷ 0 ∷ [])
+    ∷ count 0 0 1
+    ∷ count 1 1 9
+    ∷ count 2 2 118
+    ∷ count 3 3 2152
+    ∷ count 2 1 27
+    ∷ []
