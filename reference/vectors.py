@@ -216,6 +216,20 @@ def perms_vectors():
 #
 # The definitions of the crate `algebra` are computed by the prover, so their vectors are a table in its language.
 
+VECTORS_HEAD = '''-- Products as the reference program computes them: written by `python3 -m reference.vectors`.
+--
+--   vector m l q h g k n    h of rank m times g of rank l is k, and takes n ring operations
+use mathlib.Core.List.{List, [], _∷_}
+use Prim.Native.Nat.{ℕ}
+
+pub data Vector : Type 0 where
+  vector : ℕ → ℕ → ℕ → List ℕ → List ℕ → List ℕ → ℕ → Vector
+
+abbrev pub vectors : List Vector
+vectors =
+'''
+
+
 def numbers(a):
     return ''.join(f'{x} ∷ ' for x in a) + '[]'
 
@@ -235,20 +249,6 @@ def algebra_vectors():
     rows.append(product_vector(source, 3, 3, 3))
     table = '    ' + '\n    ∷ '.join(rows + ['[]']) + '\n'
     yield 'crates/algebra/proofs/Vectors.antt', (VECTORS_HEAD + table).encode()
-
-
-VECTORS_HEAD = '''-- Products as the reference program computes them: written by `python3 -m reference.vectors`.
---
---   vector m l q h g k n    h of rank m times g of rank l is k, and takes n ring operations
-use mathlib.Core.List.{List, [], _∷_}
-use Prim.Native.Nat.{ℕ}
-
-pub data Vector : Type 0 where
-  vector : ℕ → ℕ → ℕ → List ℕ → List ℕ → List ℕ → ℕ → Vector
-
-abbrev pub vectors : List Vector
-vectors =
-'''
 
 
 def main(arguments):

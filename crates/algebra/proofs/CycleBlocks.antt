@@ -87,7 +87,7 @@ module _ (A : Type 0) (o : Ops A) (q r : A) where
         let one = comb-one A o 𝓡 {B = ℕ} 0 a in
         ap (Rw A o q r x) (sym (one F)) ∙ Rw-comb A o q r 𝓡 x (0 ∷ []) (λ _. a) (λ _. F) ∙ one (Rw A o q r x F)
 
-    -- ---- c among the letters: d = c - 1 is the letter that meets it, t letters come before it and s after
+    -- ---- c among the letters: d = c - 1 is the letter that moves it, t letters come before it and s after
 
     pub cycle-among : (m d t s j : ℕ) (F : List ℕ → A) (u : List ℕ) → Perm m u → 1 ≤ d → t + d ≡ suc j → s < d → j ≤ m
         → Rw A o q r (cycle (suc j) (t + suc s)) F (extend (suc d) u) ≡ o .mul q (Rw A o q r (cycle j (t + s)) (blockAt d F) u)

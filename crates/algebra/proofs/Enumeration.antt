@@ -14,12 +14,12 @@ use Rattle.algebra.specs.Blocks.{blocks}
 use Rattle.algebra.specs.Place.{join, perms}
 use Rattle.perms.proofs.All.{all-append, all-map}
 
-pub join-extend : {m : ℕ} (k : ℕ) (u : List ℕ) → Perm m u → k ≤ suc m → join m k u ≡ extend (m + 2 - k) u
+pub join-extend : {m : ℕ} (k : ℕ) (u : List ℕ) → k ≤ suc m → Perm m u → join m k u ≡ extend (m + 2 - k) u
 unfolding join
-join-extend k u p h = extend-product k u p h
+join-extend k u h p = extend-product k u p h
 
 pub perm-join : {m : ℕ} (k : ℕ) (u : List ℕ) → k ≤ suc m → Perm m u → Perm (suc m) (join m k u)
-perm-join k u h p = rw (join-extend k u p h) (perm-extend record { low = omega arith; high = omega arith; rest = p })
+perm-join k u h p = rw (join-extend k u h p) (perm-extend record { low = omega arith; high = omega arith; rest = p })
 
 -- w is u a(m + 1, k) with k the last entry of its tower
 pub record Joined (m : ℕ) (w : List ℕ) : Type 0 where
@@ -38,7 +38,7 @@ joined {m} w p = go (split w p)
       rest = a .rest;
       small = omega arith;
       perm = t .rest;
-      whole = a .whole ∙ ap (λ c. extend c (a .rest)) (omega arith) ∙ sym (join-extend (m + 2 - a .top) (a .rest) (t .rest) (omega arith));
+      whole = a .whole ∙ ap (λ c. extend c (a .rest)) (omega arith) ∙ sym (join-extend (m + 2 - a .top) (a .rest) (omega arith) (t .rest));
     }
 
 all-blocks : {B : Type 0} (P : B → Type 0) (n : ℕ) (f : ℕ → List B) → ((k : ℕ) → k < n → All P (f k)) → All P (blocks n f)

@@ -12,7 +12,7 @@ use Rattle.ring.proofs.Ring.{add-left-comm, mul-left-comm}
 use Rattle.perms.specs.Permutation.{Letter}
 use Rattle.perms.proofs.Perm.{rgt, lft, rgt-rgt, lft-lft, lft-rgt}
 use Rattle.perms.proofs.Ascent.{ascR, ascL}
-use Rattle.perms.proofs.TwoSides.{Sides, equal, other, sides}
+use Rattle.perms.proofs.TwoSides.{Sides, agree, differ, sides}
 use Rattle.algebra.proofs.Functions.{Eq}
 
 module _ (A : Type 0) (o : Ops A) (q r : A) where
@@ -39,5 +39,5 @@ module _ (A : Type 0) (o : Ops A) (q r : A) where
     L-R {i = i} j F l w c = go (sides i j w l c)
       where
         go : Sides i j w → L i (R j F) w ≡ R j (L i F) w
-        go (equal b e x y x' y') = rw (ap (rgt j) e ∙ rgt-rgt j w, ← e, x, y, x', y', lft-lft)
-        go (other y x) = rw (y, x, lft-rgt) (step-step (ascL i w) (ascR j w) (F (rgt j (lft i w))) (F (lft i w)) (F (rgt j w)) (F w))
+        go (agree b e x y x' y') = rw (ap (rgt j) e ∙ rgt-rgt j w, ← e, x, y, x', y', lft-lft)
+        go (differ y x) = rw (y, x, lft-rgt) (step-step (ascL i w) (ascR j w) (F (rgt j (lft i w))) (F (lft i w)) (F (rgt j w)) (F w))

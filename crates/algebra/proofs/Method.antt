@@ -21,11 +21,11 @@ use Rattle.algebra.proofs.NestedAct.{act-value}
 use Rattle.algebra.proofs.Nested.{value}
 
 -- for l ≥ 1 in the place of l + 1
-step : (A : Type 0) (o : Ops A) (q r : A) (𝓡 : Ring A o) (m l : ℕ) (h g : List A)
+recursion-at : (A : Type 0) (o : Ops A) (q r : A) (𝓡 : Ring A o) (m l : ℕ) (h g : List A)
     → 1 ≤ l → l ≤ m → length h ≡ factorial (suc m) → length g ≡ factorial (suc l)
     → times A o q r m l h g ≡ sumOver A o m (range 0 (l + 1)) (λ k. act A o q r m (cycle l k) (times A o q r m (l - 1) h (block (factorial l) k g)))
-step A o q r 𝓡 m zero h g l1 lm e d = absurd (omega arith)
-step A o q r 𝓡 m (suc l) h g l1 lm e d =
+recursion-at A o q r 𝓡 m zero h g l1 lm e d = absurd (omega arith)
+recursion-at A o q r 𝓡 m (suc l) h g l1 lm e d =
     let x : l + 2 ≡ suc l + 1 = omega arith in
     let y : l ≡ suc l - 1 = omega arith in
     recursion A o q r 𝓡 m l h g lm e d
@@ -36,6 +36,6 @@ method A o q r 𝓡 ok m = record {
   cycle-times = λ j l b c h e. sym (laws A o q r m 𝓡 ok .acts (a m j l) (cycle j l) (cycle-shortest m j l b c) h e);
   proposition = λ j l b c d h e. proposition A o q r 𝓡 m j l h b c d (e .size);
   act-value = λ j l b c h e. act-value A o q r 𝓡 m j l h b c (e .size);
-  recursion = λ l b c h g e d. step A o q r 𝓡 m l h g b c (e .size) (d .size);
+  recursion = λ l b c h g e d. recursion-at A o q r 𝓡 m l h g b c (e .size) (d .size);
   value = λ l b h g e d. value A o q r 𝓡 m l h g b (e .size) (d .size);
 }

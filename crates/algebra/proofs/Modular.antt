@@ -71,6 +71,6 @@ module _ (m q : ℕ) (hq : q < 2 ^ 64) where
   pub calls-hecke : (calls : Calls ℕ) → Agrees (λ n. n < 2 ^ 64) m calls (defined ℕ words q (minusOne ℕ words q) m)
       → Hecke ℕ words q (minusOne ℕ words q) (λ n. n < 2 ^ 64) m calls
   calls-hecke calls e = record {
-    minus-one = one-less q hq;
+    minus-one = word-hecke .minus-one;
     laws = same-laws ℕ words q (minusOne ℕ words q) (λ n. n < 2 ^ 64) m hq (below q) calls (defined ℕ words q (minusOne ℕ words q) m) e word-closed word-laws;
   }

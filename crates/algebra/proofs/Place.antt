@@ -37,7 +37,7 @@ place-extend {m} c u t = rw (longer, shorter) (ap₂ _+_ (series-cong 1 m _ _ sa
 
 pub place-join : {m : ℕ} (k : ℕ) (u : List ℕ) → k ≤ suc m → Perm m u → place (join m k u) ≡ place u + k * factorial (suc m)
 place-join {m} k u h p =
-    ap place (join-extend k u p h)
+    ap place (join-extend k u h p)
     ∙ place-extend (m + 2 - k) u (record { low = omega arith; high = omega arith; rest = p })
     ∙ ap (λ d. place u + d * factorial (suc m)) (omega arith)
 

@@ -24,7 +24,7 @@ use Rattle.algebra.proofs.CycleBlocks.{cycle-above, cycle-below, parts,
 -- block k by the last image
 extended : {A : Type 0} {o : Ops A} {m : ℕ} {h : List A} {F : List ℕ → A} (k : ℕ) → Has A o (suc m) h F → k ≤ suc m
     → Has A o m (block (factorial (suc m)) k h) (blockAt (m + 2 - k) F)
-extended {A} {o} {F = F} k a l = has-eq A o (has-block A o k a l) (λ u p. ap F (join-extend k u p l))
+extended {A} {o} {F = F} k a l = has-eq A o (has-block A o k a l) (λ u p. ap F (join-extend k u l p))
 
 -- at rank m + 1, with j + 1 in the place of j
 module _ (A : Type 0) (o : Ops A) (q r : A) (𝓡 : Ring A o) (m j l : ℕ) (h : List A) (F : List ℕ → A)

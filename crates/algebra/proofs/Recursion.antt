@@ -28,9 +28,9 @@ use Rattle.algebra.proofs.Words.{Rw, Rw-append, Rw-comb}
 use Rattle.algebra.proofs.Convolution.{prod}
 use Rattle.algebra.proofs.Elements.{has-own, has-act, has-times, has-block, has-sumOver, equal-elements}
 
-standard-join : {m : ℕ} (k : ℕ) (u : List ℕ) → Perm m u → k ≤ suc m → standard (towerOf (join m k u)) ≡ standard (towerOf u) ++ cycle (suc m) k
-standard-join {m} k u p l =
-    ap (λ w. standard (towerOf w)) (join-extend k u p l)
+standard-join : {m : ℕ} (k : ℕ) (u : List ℕ) → k ≤ suc m → Perm m u → standard (towerOf (join m k u)) ≡ standard (towerOf u) ++ cycle (suc m) k
+standard-join {m} k u l p =
+    ap (λ w. standard (towerOf w)) (join-extend k u l p)
     ∙ standard-extend (m + 2 - k) u (record { low = omega arith; high = omega arith; rest = p })
     ∙ ap (λ i. standard (towerOf u) ++ cycle (suc m) i) (omega arith)
 
@@ -60,7 +60,7 @@ module _ (A : Type 0) (o : Ops A) (q r : A) (𝓡 : Ring A o) where
           ≡ Rw A o q r (cycle (suc l) k) (prod A o q r l F (λ u. G (join l k u))) w
       each k n =
           sum-all A o (Perm l) (perms l) _ _ (perms-perm l) (λ u c. ap (o .mul (G (join l k u)))
-          (ap (λ x. Rw A o q r x F w) (standard-join k u c n) ∙ ap (λ H. H w) (Rw-append A o q r (standard (towerOf u)) (cycle (suc l) k) F)))
+          (ap (λ x. Rw A o q r x F w) (standard-join k u n c) ∙ ap (λ H. H w) (Rw-append A o q r (standard (towerOf u)) (cycle (suc l) k) F)))
           ∙ sym (ap (λ H. H w) (Rw-comb A o q r 𝓡 (cycle (suc l) k) (perms l) (λ u. G (join l k u)) (λ u. Rw A o q r (standard (towerOf u)) F)))
 
   pub recursion : (m l : ℕ) (h g : List A) → suc l ≤ m → length h ≡ factorial (suc m) → length g ≡ factorial (suc (suc l))

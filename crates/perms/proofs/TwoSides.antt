@@ -1,5 +1,5 @@
--- A generator on either side of a permutation: either s_i w = w s_j, and then the two tests for an ascent agree and both change; or neither action changes the
--- other's test. Rests on Ascent.
+-- A generator on either side of a permutation: either s_i w = w s_j, and then the two tests for an ascent agree and both change; or neither
+-- action changes the other's test. Rests on Ascent.
 use mathlib.Core.Path.{_≡_, refl, sym, ap, ap₂, _∙_}
 use mathlib.Core.Logic.{_≢_}
 use mathlib.Core.Bool.{Bool, true, false, cond, not}
@@ -20,8 +20,8 @@ use Rattle.perms.proofs.Products.{getD-swapAt}
 use Rattle.perms.proofs.Ascent.{before, ascR, ascL, before-not, flipR, flipL}
 
 pub data Sides (i j : ℕ) (w : List ℕ) : Type 0 where
-  equal : (b : Bool) → lft i w ≡ rgt j w → ascL i w ≡ b → ascR j w ≡ b → ascL i (lft i w) ≡ not b → ascR j (lft i w) ≡ not b → Sides i j w
-  other : ascR j (lft i w) ≡ ascR j w → ascL i (rgt j w) ≡ ascL i w → Sides i j w
+  agree : (b : Bool) → lft i w ≡ rgt j w → ascL i w ≡ b → ascR j w ≡ b → ascL i (lft i w) ≡ not b → ascR j (lft i w) ≡ not b → Sides i j w
+  differ : ascR j (lft i w) ≡ ascR j w → ascL i (rgt j w) ≡ ascL i w → Sides i j w
 
 -- ---- two neighbours that s_j takes to each other
 
@@ -93,7 +93,7 @@ sides {m} (suc p) j w l c = go (same? (swap j x) y) (swap? j x)
         → Sides (suc p) j w
     together b q fix k u v =
         let e : swapAt p w ≡ rgt j w = swapAt-rgt p j w c h q fix in
-        equal b e u v (flipL (suc p) w l c ∙ ap not u) (ap (before j (suc j)) e ∙ flipR j w k c ∙ ap not v)
+        agree b e u v (flipL (suc p) w l c ∙ ap not u) (ap (before j (suc j)) e ∙ flipR j w k c ∙ ap not v)
 
     go : SameView (swap j x) y → SwapView j x → Sides (suc p) j w
     go (is q f) (lo a e) =
@@ -106,4 +106,4 @@ sides {m} (suc p) j w l c = go (same? (swap j x) y) (swap? j x)
         ∙ ap not (ap₂ (λ a b. before a b w) (omega arith) (omega arith) ∙ before-at p w (perm-dist c) h))
     go (is q f) (off a b e) = absurd (omega (arith, perm-distinct w c p (suc p) (omega arith) h (sym e ∙ q)))
     go (isnt n f) s =
-        other (before-swapAt p j w n) (ap₂ less (getD-map (swap j) w p 0 0 (omega arith)) (getD-map (swap j) w (suc p) 0 0 h) ∙ less-swap j x y n)
+        differ (before-swapAt p j w n) (ap₂ less (getD-map (swap j) w p 0 0 (omega arith)) (getD-map (swap j) w (suc p) 0 0 h) ∙ less-swap j x y n)
