@@ -14,6 +14,7 @@ use perms::Counted;
 use perms::Generators;
 use perms::Refusal;
 use perms::Verdict;
+use vector_io::print_field;
 
 // What is read of the input: a byte, or nothing more.
 enum Read {
@@ -52,11 +53,6 @@ fn read_second(call: u8, list: &mut [u8]) -> Read
         return read_list(list);
     }
     Read::Byte(0)
-}
-
-fn print_field(n: u64) {
-    io::write_all(1, b" ");
-    io::print_decimal(1, n);
 }
 
 fn print_refusal(why: Refusal) {

@@ -2,8 +2,8 @@
 use Prim.Native.Nat.{_≤_, _-_}
 use native.Mathlib.Omega.{arith}
 use borrow.Author.Needs.{needs}
-use Rattle.ring_vectors.proofs.word_of.Statement.{statement}
-use Rattle.ring_vectors.proofs.word_of.Tie as tie
+use Rattle.vector_io.proofs.word_of.Statement.{statement}
+use Rattle.vector_io.proofs.word_of.Tie as tie
 
 abbrev Inv-loop : tie.InvT-loop
 Inv-loop bytes word₀ i₀ word i = i ≤ 8
