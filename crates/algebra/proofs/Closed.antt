@@ -1,5 +1,5 @@
 -- Along a map of ring operations onto the coefficients that are meant, and no others, basis elements are elements, and sums, multiples, actions and
--- products of elements are elements. Rests on Lists, Coefficients, CoefficientActions, NestedMaps, Onto and Calls.
+-- products of elements are elements. Rests on Lists, Coefficients, CoefficientActions, NestedMaps and Onto.
 use mathlib.Core.Path.{_≡_, sym, ap, _∙_, subst}
 use mathlib.Core.List.{List, [], _∷_, map}
 use Prim.Native.Nat.{ℕ, suc}
@@ -9,14 +9,13 @@ use Rattle.perms.specs.Lists.{All}
 use Rattle.algebra.specs.Numbers.{factorial}
 use Rattle.algebra.specs.Element.{Element, plus, scale, basis}
 use Rattle.algebra.specs.Product.{act, times}
-use Rattle.algebra.specs.Laws.{defined}
+use Rattle.algebra.specs.Laws.{defined, Closed}
 use Rattle.algebra.specs.Maps.{Maps}
 use Rattle.algebra.proofs.Lists.{plus-length, scale-length}
 use Rattle.algebra.proofs.Coefficients.{basis-length}
 use Rattle.algebra.proofs.CoefficientActions.{act-length, times-length}
 use Rattle.algebra.proofs.NestedMaps.{maps}
 use Rattle.algebra.proofs.Onto.{any, Onto, every, every2, elements}
-use Rattle.algebra.proofs.Calls.{Closed}
 
 module _ {A B : Type 0} {o : Ops A} {p : Ops B} {f : A → B} (H : Hom A B o p f) (q r : A)
     {ok : B → Type 0} (s : Onto f any ok) (good : (a : A) → ok (f a)) (m : ℕ) where

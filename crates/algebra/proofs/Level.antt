@@ -9,7 +9,7 @@ use Rattle.algebra.specs.Blocks.{block, blocks}
 use Rattle.algebra.specs.Nested.{Counted, free, _⧺_, row, _⊞_, _⊠_, sumRow, part, level}
 use Rattle.algebra.proofs.Blocks.{blocks-add, blocks-cong}
 
-row-value : {A : Type 0} (a n : ℕ) (f : ℕ → Counted A) → row a n f .value ≡ blocks n (λ i. f (a + i) .value)
+pub row-value : {A : Type 0} (a n : ℕ) (f : ℕ → Counted A) → row a n f .value ≡ blocks n (λ i. f (a + i) .value)
 unfolding row blocks free _⧺_
 row-value a zero f = refl
 row-value {A} a (suc n) f = ap {B = List A} (λ x. x ++ f (a + n) .value) (row-value a n f)

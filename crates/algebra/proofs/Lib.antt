@@ -49,6 +49,5 @@ pub mod NestedMaps
 pub mod Onto
 pub mod Carry
 pub mod CarryMethod
-pub mod Calls
 pub mod Closed
 pub mod Modular

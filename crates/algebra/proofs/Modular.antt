@@ -1,5 +1,5 @@
 -- The claims hold for the integers modulo N ≥ 1, and so for words, at N = 2^64, with r = q - 1. The coefficients that are meant are the numbers below N.
--- Rests on Laws, Formula, Method, Onto, Carry, CarryMethod, Closed, Calls and ring's Modular.
+-- Rests on Laws, Formula, Method, Onto, Carry, CarryMethod, Closed and ring's Modular.
 use mathlib.Core.Path.{_≡_, refl}
 use Prim.Native.Nat.{ℕ, _^_, _<_}
 use native.Mathlib.Nat.{mod-lt}
@@ -7,7 +7,7 @@ use native.Mathlib.Omega.{arith}
 use Rattle.ring.specs.Modular.{modular, words, Residue, number, residues}
 use Rattle.ring.proofs.Modular.{residues-ring, number-hom, words-pos}
 use Rattle.algebra.specs.Product.{minusOne}
-use Rattle.algebra.specs.Laws.{Formula, Calls, defined, Laws, Hecke}
+use Rattle.algebra.specs.Laws.{Formula, defined, Closed, Laws, Hecke}
 use Rattle.algebra.specs.Method.{Method}
 use Rattle.algebra.proofs.Laws.{laws}
 use Rattle.algebra.proofs.Formula.{formula}
@@ -15,7 +15,6 @@ use Rattle.algebra.proofs.Method.{method}
 use Rattle.algebra.proofs.Onto.{any, Onto}
 use Rattle.algebra.proofs.Carry.{carry}
 use Rattle.algebra.proofs.CarryMethod.{carry-formula, carry-method}
-use Rattle.algebra.proofs.Calls.{Agrees, Closed, same-laws}
 use Rattle.algebra.proofs.Closed.{closed}
 
 -- ---- the integers modulo N
@@ -67,10 +66,3 @@ module _ (m q : ℕ) (hq : q < 2 ^ 64) where
   pub word-closed : Closed ℕ words (λ n. n < 2 ^ 64) m (defined ℕ words q (minusOne ℕ words q) m)
   unfolding words
   word-closed = modular-closed (2 ^ 64) words-pos m q (minusOne ℕ words q) hq (below q)
-
-  pub calls-hecke : (calls : Calls ℕ) → Agrees (λ n. n < 2 ^ 64) m calls (defined ℕ words q (minusOne ℕ words q) m)
-      → Hecke ℕ words q (minusOne ℕ words q) (λ n. n < 2 ^ 64) m calls
-  calls-hecke calls e = record {
-    minus-one = word-hecke .minus-one;
-    laws = same-laws ℕ words q (minusOne ℕ words q) (λ n. n < 2 ^ 64) m hq (below q) calls (defined ℕ words q (minusOne ℕ words q) m) e word-closed word-laws;
-  }

@@ -5,6 +5,7 @@
 --   Formula           formula 3.1: what T_i makes of T_w; and h T_i is the sum over w of h_w T_w T_i
 --   Calls A           four calls: product, sum, scaling, action of a word
 --   defined m         the definitions as such calls, on elements of rank m
+--   Closed calls      basis elements are elements of rank m, and the calls make elements of elements
 --   Distant i j       i and j are more than 1 apart
 --   Laws calls        demand 3's laws for calls on elements of rank m, for any q and r. There E h says that h is an element of rank m; h · g, h ⊕ g and
 --                     x ⊙ h are the product, sum and scaling of the calls, 𝟏 is the unit and t i is T_i
@@ -55,6 +56,13 @@ pub record Calls (A : Type 0) : Type 0 where
 
 abbrev pub defined : (A : Type 0) → Ops A → A → A → ℕ → Calls A
 defined A o q r m = record { product = times A o q r m m; sum = plus A o; scale = scale A o; act = act A o q r m }
+
+pub record Closed (A : Type 0) (o : Ops A) (ok : A → Type 0) (m : ℕ) (calls : Calls A) : Type 0 where
+  pub basis : (w : List ℕ) → Element ok m (basis A o m w)
+  pub product : (h g : List A) → Element ok m h → Element ok m g → Element ok m (calls .product h g)
+  pub sum : (h g : List A) → Element ok m h → Element ok m g → Element ok m (calls .sum h g)
+  pub scale : (c : A) (h : List A) → ok c → Element ok m h → Element ok m (calls .scale c h)
+  pub act : (s : List ℕ) (h : List A) → Element ok m h → Element ok m (calls .act s h)
 
 module _ (A : Type 0) (o : Ops A) (q r : A) (ok : A → Type 0) (m : ℕ) (calls : Calls A) where
   infixl 60 _⊕_

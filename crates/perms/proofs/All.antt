@@ -1,7 +1,7 @@
 -- Lists of which each element has a property: joined lists, mapped lists, elements by index, and members. Rests on nothing here.
 use mathlib.Core.Path.{_≡_, refl, sym, ap₂, subst}
 use mathlib.Core.List.{List, [], _∷_, _++_, map, List·Memᴰ, List·Memᴰ·head, List·Memᴰ·tail}
-use Prim.Native.Nat.{ℕ, zero, suc, _<_}
+use Prim.Native.Nat.{ℕ, zero, suc, _<_, suc-le-suc}
 use native.Mathlib.Nat.{le-of-suc-le-suc}
 use native.Mathlib.Omega.{arith}
 use lib.ListN.{length, getD}
@@ -24,6 +24,10 @@ module _ {B : Type 0} (P : B → Type 0) where
   all-getD [] i d h a = absurd (omega arith)
   all-getD (x ∷ s) zero d h a = a .0
   all-getD (x ∷ s) (suc i) d h a = all-getD s i d (le-of-suc-le-suc h) (a .1)
+
+  pub all-index : (s : List B) (d : B) → ((i : ℕ) → i < length s → P (getD s i d)) → All P s
+  all-index [] d h = tt
+  all-index (x ∷ s) d h = (h 0 (omega arith), all-index s d (λ i l. h (suc i) (suc-le-suc l)))
 
   pub all-member : {x : B} {s : List B} → List·Memᴰ x s → All P s → P x
   all-member (List·Memᴰ·head e) a = subst P (sym e) (a .0)

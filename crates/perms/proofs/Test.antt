@@ -1,7 +1,7 @@
 -- The tests `same` and `less` by cases: what holds of the numbers, with what the test then is. Rests on nothing here.
 use mathlib.Core.Path.{_≡_, refl, sym, ap, subst, _∙_}
 use mathlib.Core.Logic.{_≢_}
-use mathlib.Core.Bool.{Bool, true, false}
+use mathlib.Core.Bool.{Bool, true, false, not, _||_}
 use Prim.Native.Nat.{ℕ, _≤_, _<_}
 use native.Mathlib.Omega.{arith}
 use mir.Val.{boolByte}
@@ -96,6 +96,19 @@ less-false x a t = go (less? x a)
     go : LessView x a → a ≤ x
     go (lt h e) = absurd (omega (arith, ap bit (sym e ∙ t)))
     go (ge h e) = h
+
+-- tests that fail
+pub not-false : (b : Bool) → not b ≡ false → b ≡ true
+not-false true e = refl
+not-false false e = absurd (omega (arith, ap bit e))
+
+pub or-first : (a b : Bool) → (a || b) ≡ false → a ≡ false
+or-first false b e = refl
+or-first true b e = e
+
+pub or-next : (a b : Bool) → (a || b) ≡ false → b ≡ false
+or-next false b e = e
+or-next true b e = absurd (omega (arith, ap bit e))
 
 -- a test cast to a number
 pub byte-bit : (b : Bool) → boolByte b ≡ bit b

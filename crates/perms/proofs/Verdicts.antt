@@ -14,7 +14,7 @@ use Rattle.perms.specs.Lists.{same, less, bit, first, count}
 use Rattle.perms.specs.Permutation.{Perm}
 use Rattle.perms.specs.Tower.{Tower}
 use Rattle.perms.specs.Calls.{badImage, firstBadImage, firstBadEntry, _then_, unless, imagesVerdict, entriesVerdict, towerVerdict, towersVerdict, exact}
-use Rattle.perms.proofs.Test.{SameView, is, isnt, LessView, lt, ge, same?, less?, same-yes, same-no, less-no, same-false, less-false}
+use Rattle.perms.proofs.Test.{SameView, is, isnt, LessView, lt, ge, same?, less?, same-yes, same-no, less-no, same-false, less-false, or-first, or-next}
 use Rattle.perms.proofs.First.{passed}
 use Rattle.perms.proofs.Valid.{perm-of-checked}
 
@@ -38,16 +38,6 @@ accepts-unless : (b : Bool) (why : Refusal) → unless b why ≡ Accepted → b 
 unfolding passes
 accepts-unless false why e = refl
 accepts-unless true why e = absurd (omega (arith, ap passes e))
-
--- ---- tests that fail
-
-or-first : (a b : Bool) → (a || b) ≡ false → a ≡ false
-or-first false b e = refl
-or-first true b e = e
-
-or-next : (a b : Bool) → (a || b) ≡ false → b ≡ false
-or-next false b e = e
-or-next true b e = absurd (omega (arith, ap bit e))
 
 -- ---- verdicts where the sizes are right
 
