@@ -1,0 +1,74 @@
+-- Four calls of the product, which leave (h g) k and h (g k): equal lists, by demand 3. Rests on hecke's Demand3.
+--
+--   Called m q h g r s r' s'    a call of h g, with r for the result and s for scratch, left r' and s' there
+use mathlib.Core.Path.{_≡_, sym, ap, _∙_, subst}
+use mathlib.Core.List.{List}
+use Prim.Native.Nat.{ℕ, suc, _^_, _≤_, _<_}
+use native.Mathlib.Omega.{arith}
+use lib.ListN.{length}
+use Rattle.ring.specs.Modular.{words}
+use Rattle.algebra.specs.Numbers.{factorial}
+use Rattle.algebra.specs.Product.{minusOne, times}
+use Rattle.hecke.specs.declared.Answer.{Answer}
+use Rattle.hecke.specs.Calls.{needed, productCall}
+use Rattle.hecke.specs.Demand3.{E, Taken, Lawful}
+use Rattle.hecke.proofs.Demand3.{demand-3, product-lent}
+use Rattle.associates.specs.Sizes.{Sizes}
+
+pub record Called (m q : ℕ) (h g r s r' s' : List ℕ) : Type 0 where
+  pub answer : Answer
+  pub ensures : productCall m q h g r s ≡ record { answer = answer; lent = record { result = r'; scratch = s' } }
+  pub kept : length s' ≡ length s
+
+-- ---- one call
+
+module _ {m q : ℕ} (rank : m ≤ 6) (word : q < 2 ^ 64) where
+  D : Lawful m q
+  D = demand-3 m q rank word
+
+  module _ {h g r s r' s' : List ℕ} (c : Called m q h g r s r' s') (a : E m h) (b : E m g)
+      (size : length r ≡ factorial (suc m)) (room : needed m ≤ length s) where
+    taken : Taken (productCall m q h g r s .answer)
+    taken = D .product-taken h g r s a b size room
+
+    by-demand : r' ≡ D .calls .product h g
+    by-demand = sym (ap (λ o. o .lent .result) (c .ensures)) ∙ D .product-writes h g r s taken
+
+    by-definition : r' ≡ times ℕ words q (minusOne ℕ words q) m m h g
+    by-definition = sym (ap (λ o. o .lent .result) (c .ensures)) ∙ product-lent m q h g r s taken
+
+    written : E m r'
+    written = subst (E m) (sym by-demand) (D .closed .product h g a b)
+
+-- ---- four calls
+
+module _ {m q : ℕ} {h g k part left right scratch u x s₁ s₂ : List ℕ} (z : Sizes m h g k part left right scratch) (word : q < 2 ^ 64)
+    (a : E m h) (b : E m g) (c : E m k) (hg : Called m q h g part scratch u s₁) (uk : Called m q u k left s₁ x s₂) where
+  P : List ℕ → List ℕ → List ℕ
+  P = D (z .rank) word .calls .product
+
+  hg-element : E m u
+  hg-element = written (z .rank) word hg a b (z .part-size) (z .room)
+
+  room₁ : needed m ≤ length s₁
+  room₁ = omega (arith, z .room, hg .kept)
+
+  pub left-value : x ≡ times ℕ words q (minusOne ℕ words q) m m (times ℕ words q (minusOne ℕ words q) m m h g) k
+  left-value =
+      by-definition (z .rank) word uk hg-element c (z .left-size) room₁
+      ∙ ap (λ p. times ℕ words q (minusOne ℕ words q) m m p k) (by-definition (z .rank) word hg a b (z .part-size) (z .room))
+
+  pub left-right : {v y s₃ s₄ : List ℕ} → Called m q g k u s₂ v s₃ → Called m q h v right s₃ y s₄ → x ≡ y
+  unfolding P
+  left-right {v} gk hv =
+      by-demand (z .rank) word uk hg-element c (z .left-size) room₁
+      ∙ ap (λ p. P p k) (by-demand (z .rank) word hg a b (z .part-size) (z .room))
+      ∙ D (z .rank) word .hecke .laws .assoc h g k a b c
+      ∙ ap (P h) (sym (by-demand (z .rank) word gk b c (hg-element .size) room₂))
+      ∙ sym (by-demand (z .rank) word hv a gk-element (z .right-size) (omega (arith, room₂, gk .kept)))
+    where
+      room₂ : needed m ≤ length s₂
+      room₂ = omega (arith, room₁, uk .kept)
+
+      gk-element : E m v
+      gk-element = written (z .rank) word gk b c (hg-element .size) room₂

@@ -1,0 +1,140 @@
+-- Demand 3 holds, with algebra's definitions as what the calls write. Rests on Verdicts, Calls, Products, algebra's Modular and Bounds, and perms'
+-- Tally and Reduced.
+use mathlib.Core.Path.{_≡_, refl, sym, ap, _∙_}
+use mathlib.Core.List.{List, [], _∷_, _++_}
+use Prim.Native.Nat.{ℕ, suc, _*_, _/_, _≤_}
+use native.Mathlib.Nat.{mul-comm}
+use native.Mathlib.Omega.{arith}
+use lib.ListN.{length, drop, replicate}
+use Rattle.ring.specs.Modular.{words}
+use Rattle.perms.specs.Lists.{less}
+use Rattle.perms.specs.Permutation.{Perm, below, len, Word, Shortest}
+use Rattle.perms.proofs.Tally.{tally-size}
+use Rattle.perms.proofs.Reduced.{short-perm}
+use Rattle.algebra.specs.Numbers.{factorial}
+use Rattle.algebra.specs.Element.{plus, scale}
+use Rattle.algebra.specs.Product.{minusOne, act, times}
+use Rattle.algebra.specs.Nested.{operations, nested}
+use Rattle.algebra.specs.Cost.{bound}
+use Rattle.algebra.specs.Laws.{defined}
+use Rattle.algebra.proofs.Modular.{word-hecke, word-closed}
+use Rattle.algebra.proofs.Bounds.{bounds}
+use Rattle.hecke.specs.declared.Verdict.{Verdict}
+use Rattle.hecke.specs.declared.Verdict.the-variants.{Accepted}
+use Rattle.hecke.specs.Calls.{_then_, rankVerdict, sizeVerdict, needed, scratchVerdict, wordVerdict, Buffers, sumCall, scaleCall, actWordCall, productCall}
+use Rattle.hecke.specs.Demand3.{E, Taken, Demand3}
+use Rattle.hecke.proofs.Verdicts.{rank-taken, size-taken, scratch-taken, word-taken}
+use Rattle.hecke.proofs.Calls.{write-verdict}
+use Rattle.hecke.proofs.Products.{product-counted}
+
+-- ---- what each call answers and leaves where it is taken: `xChecks` is the verdict of the call x
+
+module _ (m : ℕ) (h g result : List ℕ) where
+  abbrev sumChecks : Verdict
+  sumChecks = rankVerdict m then sizeVerdict m (length h) then sizeVerdict m (length g) then sizeVerdict m (length result)
+
+  sum-verdict : sumCall m h g result .answer .verdict ≡ sumChecks
+  unfolding sumCall
+  sum-verdict = write-verdict sumChecks result (plus ℕ words h g) (factorial (suc m))
+
+  sum-lent : Taken (sumCall m h g result .answer) → sumCall m h g result .lent ≡ plus ℕ words h g
+  unfolding sumCall
+  sum-lent t = rw (sym sum-verdict ∙ t) refl
+
+module _ (m c : ℕ) (h result : List ℕ) where
+  abbrev scaleChecks : Verdict
+  scaleChecks = rankVerdict m then sizeVerdict m (length h) then sizeVerdict m (length result)
+
+  scale-verdict : scaleCall m c h result .answer .verdict ≡ scaleChecks
+  unfolding scaleCall
+  scale-verdict = write-verdict scaleChecks result (scale ℕ words c h) (factorial (suc m))
+
+  scale-lent : Taken (scaleCall m c h result .answer) → scaleCall m c h result .lent ≡ scale ℕ words c h
+  unfolding scaleCall
+  scale-lent t = rw (sym scale-verdict ∙ t) refl
+
+module _ (m q : ℕ) (x h : List ℕ) where
+  abbrev actChecks : Verdict
+  actChecks = rankVerdict m then sizeVerdict m (length h) then wordVerdict m x
+
+  act-verdict : actWordCall m q x h .answer .verdict ≡ actChecks
+  unfolding actWordCall
+  act-verdict = write-verdict actChecks h (act ℕ words q (minusOne ℕ words q) m x h) (length x * (3 * factorial (suc m) / 2))
+
+  act-lent : Taken (actWordCall m q x h .answer) → actWordCall m q x h .lent ≡ act ℕ words q (minusOne ℕ words q) m x h
+  unfolding actWordCall
+  act-lent t = rw (sym act-verdict ∙ t) refl
+
+  act-counted : Taken (actWordCall m q x h .answer) → actWordCall m q x h .answer .count ≡ length x * (3 * factorial (suc m) / 2)
+  unfolding actWordCall
+  act-counted t = rw (sym act-verdict ∙ t) refl
+
+module _ (m q : ℕ) (h g result scratch : List ℕ) where
+  abbrev productChecks : Verdict
+  productChecks =
+      rankVerdict m then sizeVerdict m (length h) then sizeVerdict m (length g) then sizeVerdict m (length result) then scratchVerdict m (length scratch)
+
+  product-verdict : productCall m q h g result scratch .answer .verdict ≡ productChecks
+  unfolding productCall
+  product-verdict = let r = minusOne ℕ words q in
+      write-verdict {A = Buffers} productChecks (record { result = result; scratch = scratch })
+      (record { result = times ℕ words q r m m h g; scratch = replicate (needed m) 0 ++ drop (needed m) scratch })
+      (operations (nested ℕ words q r m m h g .count))
+
+  pub product-lent : Taken (productCall m q h g result scratch .answer)
+      → productCall m q h g result scratch .lent .result ≡ times ℕ words q (minusOne ℕ words q) m m h g
+  unfolding productCall
+  product-lent t = rw (sym product-verdict ∙ t) refl
+
+  product-counts : Taken (productCall m q h g result scratch .answer)
+      → productCall m q h g result scratch .answer .count ≡ operations (nested ℕ words q (minusOne ℕ words q) m m h g .count)
+  unfolding productCall
+  product-counts t = rw (sym product-verdict ∙ t) refl
+
+-- ---- a shortest word is within the limit
+
+len-bound : (c : ℕ) (w : List ℕ) → length w ≤ c → len w ≤ c * length w
+unfolding len below
+len-bound c [] h = omega arith
+len-bound c (x ∷ w) h = omega (arith, tally-size (λ y. less y x) w, len-bound c w (omega arith))
+
+shortest-few : {m : ℕ} {x w : List ℕ} → m ≤ 6 → Shortest m x w → length x ≤ 4096
+shortest-few {m} {x} {w} h s =
+    let p : Perm m w = short-perm s in
+    omega (arith, s .short, p .size, len-bound 7 w (omega (arith, p .size)))
+
+-- ---- the claim
+
+pub demand-3 : Demand3
+unfolding bound
+demand-3 m q rank hq = record {
+  calls = defined ℕ words q (minusOne ℕ words q) m;
+  sum-taken = λ h g result a b c. sum-verdict m h g result ∙ rw (fits, size a, size b, size-taken m (length result) c) refl;
+  scale-taken = λ c h result a b. scale-verdict m c h result ∙ rw (fits, size a, size-taken m (length result) b) refl;
+  act-taken = takes;
+  product-taken = λ h g result scratch a b c n.
+      product-verdict m q h g result scratch ∙ rw (fits, size a, size b, size-taken m (length result) c, scratch-taken m (length scratch) n) refl;
+  sum-writes = sum-lent m;
+  scale-writes = scale-lent m;
+  act-writes = act-lent m q;
+  product-writes = product-lent m q;
+  closed = word-closed m q hq;
+  hecke = word-hecke m q hq;
+  word-taken = λ w x h s a. takes x h (s .word) (shortest-few rank s) a;
+  word-count = λ w x h s a.
+      act-counted m q x h (takes x h (s .word) (shortest-few rank s) a) ∙ mul-comm (length x) each ∙ ap (λ n. each * n) (sym (s .short));
+  product-count = λ h g result scratch a b t. product-counts m q h g result scratch t ∙ product-counted a b q;
+  bound = omega (arith, bounds m m (omega arith) rank);
+}
+  where
+    each : ℕ
+    each = 3 * factorial (suc m) / 2
+
+    fits : rankVerdict m ≡ Accepted
+    fits = rank-taken m rank
+
+    size : {h : List ℕ} → E m h → sizeVerdict m (length h) ≡ Accepted
+    size {h} a = size-taken m (length h) (a .size)
+
+    takes : (x h : List ℕ) → Word m x → length x ≤ 4096 → E m h → Taken (actWordCall m q x h .answer)
+    takes x h w n a = act-verdict m q x h ∙ rw (fits, size a, word-taken m x w n) refl

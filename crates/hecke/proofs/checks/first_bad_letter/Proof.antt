@@ -1,0 +1,57 @@
+-- The loop is the search for the first bad letter.
+use mathlib.Core.Path.{_≡_, refl}
+use mathlib.Core.Logic.{_≢_, ⊎-elim}
+use mathlib.Core.Bool.{true, false, _||_}
+use Prim.Native.Nat.{ℕ, _-_}
+use native.Mathlib.Omega.{arith}
+use lib.Dec.{ltb}
+use lib.ListN.{length, getD}
+use Rattle.perms.specs.Lists.{same, less}
+use Rattle.perms.proofs.Test.{same-yes, same-no}
+use Rattle.perms.proofs.First.{From, first-start, first-here, first-next, first-none}
+use Rattle.hecke.specs.Calls.{firstBadLetter}
+use Rattle.hecke.proofs.checks.first_bad_letter.Statement.{statement}
+use Rattle.hecke.proofs.checks.first_bad_letter.Tie as tie
+
+abbrev Inv-loop : tie.InvT-loop
+Inv-loop word m n i₀ i = From (λ i. let letter = getD word i 0 in same letter 0 || less m letter) (length word) i
+
+abbrev μ-loop : tie.MeasureT-loop
+μ-loop word m n i₀ i = n - i
+
+-- a letter by the tests of the code
+zero-bad : (m x : ℕ) → x ≡ 0 → (same x 0 || less m x) ≡ true
+zero-bad m x e = rw (same-yes e) refl
+
+large-bad : (m x : ℕ) → x ≢ 0 → ltb m x ≡ true → (same x 0 || less m x) ≡ true
+unfolding less
+large-bad m x n e = rw (same-no n) e
+
+within : (m x : ℕ) → x ≢ 0 → ltb m x ≡ false → (same x 0 || less m x) ≡ false
+unfolding less
+within m x n e = rw (same-no n) e
+
+loop-holds : tie.Need-loop-holds Inv-loop μ-loop
+loop-holds c = first-start _ _
+
+cast-if2 : tie.Need-cast-if2 Inv-loop μ-loop
+cast-if2 c = omega (arith, c .shared-slice-known2 .given (c .before .before .before .before .loop .i))
+
+returns : tie.Need-returns Inv-loop μ-loop
+unfolding firstBadLetter
+returns c = let at = c .before .before .before in let m = at .before .args .m in let x = getD (at .before .args .word .now) (at .loop .i) 0 in
+    let bad = ⊎-elim {C = (same x 0 || less m x) ≡ true} (λ t. zero-bad m x (t .taken)) (λ t. large-bad m x (t .0 .left) (t .2 .taken)) (c .if1 .came) in
+    first-here _ (omega arith) (at .loop .inv) bad
+
+loop-again : tie.Need-loop-again Inv-loop μ-loop
+loop-again c = first-next _ (omega arith) (c .before .before .before .before .before .loop .inv) (within _ _ (c .before .before .if1 .left) (c .if2 .left))
+
+returns-2 : tie.Need-returns-2 Inv-loop μ-loop
+unfolding firstBadLetter
+returns-2 c = first-none _ (omega arith) (c .before .loop .inv)
+
+pub first-bad-letter-spec : {M : Type 1} → statement M
+first-bad-letter-spec =
+    tie.close
+    (tie.spec Inv-loop μ-loop loop-holds (λ c. omega arith) (λ c. omega arith) cast-if2 returns (λ c. omega arith) (λ c. omega arith) loop-again
+    returns-2)

@@ -1,0 +1,21 @@
+-- The length is judged before the letters.
+use borrow.Author.Needs.{needs}
+use Rattle.perms.proofs.Test.{less-yes, less-no}
+use Rattle.hecke.specs.Calls.{wordVerdict}
+use Rattle.hecke.proofs.checks.word.Statement.{statement}
+use Rattle.hecke.proofs.checks.word.Tie as tie
+
+returns : tie.Need-returns
+unfolding wordVerdict
+returns c = simp (less-yes (c .if1 .taken))
+
+returns-2 : tie.Need-returns-2
+unfolding wordVerdict
+returns-2 c = simp (less-no (c .before .before .if1 .left), ← (c .before .first-bad-letter .ensures), less-yes (c .if2 .taken))
+
+returns-3 : tie.Need-returns-3
+unfolding wordVerdict
+returns-3 c = simp (less-no (c .before .before .if1 .left), ← (c .before .first-bad-letter .ensures), less-no (c .if2 .left))
+
+pub word-spec : {M : Type 1} → statement M
+word-spec = tie.close (tie.spec returns (λ c κs. search needs) returns-2 returns-3)

@@ -1,0 +1,84 @@
+// The action of T_a(j,l) on an element, block by block (Proposition 3.2), and that of a word.
+
+ghost use mathlib.Core.Path.{_≡_};
+ghost use Prim.Native.Nat.{ℕ, suc, _≤_};
+ghost use lib.ListN.{length};
+ghost use Rattle.ring.specs.Modular.{words};
+ghost use Rattle.perms.specs.Permutation.{Word};
+ghost use Rattle.algebra.specs.Numbers.{factorial};
+ghost use Rattle.algebra.specs.Blocks.{block, blocks};
+ghost use Rattle.algebra.specs.Product.{act};
+ghost use Rattle.hecke.specs.Steps.{acted, turned, ActPre, EachPre, MiddlePre};
+use crate::lists;
+
+// x T_a(j,l) in the place of x, of rank m. The blocks m - j to m - j + l of the result depend on one another; on each other
+// block T_a(j,l) or T_a(j-1,l) acts by itself.
+pub(crate) fn act(x: &mut [u64], work: &mut [u64], m: usize, j: usize, l: usize, q: u64, r: u64)
+    requires { ⌜ ActPre m j l (now x) (now work) ⌝ }
+    ensures { λ _. ⌜ now (x .exit) ≡ acted q r m j l (now (x .entry)) ⌝ }
+{
+    if l == 0 {
+        return;
+    }
+    let lower = m - 1;
+    let b = crate::size(lower);
+    let low = (m - j) * b;
+    let high = low + l * b + b;
+    each(&mut x[0..low], work, lower, b, m - j, j, l, q, r);
+    middle(&mut x[low..high], work, lower, b, j, l, q, r);
+    each(&mut x[high..], work, lower, b, j - l, j - 1, l, q, r);
+}
+
+// T_a(j,l) acts on each of the n blocks of x, of rank m and b words.
+fn each(
+    x: &mut [u64],
+    work: &mut [u64],
+    m: usize,
+    b: usize,
+    n: usize,
+    j: usize,
+    l: usize,
+    q: u64,
+    r: u64,
+)
+    requires { ⌜ EachPre m b n j l (now x) (now work) ⌝ }
+    ensures { λ _. ⌜ now (x .exit) ≡ blocks n (λ k. acted q r m j l (block b k (now (x .entry)))) ⌝ }
+{
+    for k in 0..n {
+        let at = k * b;
+        let end = at + b;
+        act(&mut x[at..end], work, m, j, l, q, r);
+    }
+}
+
+// The action on the l + 1 blocks of x, of rank m and b words, that depend on one another. The sum of the parts is made in the
+// first b words of work.
+fn middle(x: &mut [u64], work: &mut [u64], m: usize, b: usize, j: usize, l: usize, q: u64, r: u64)
+    requires { ⌜ MiddlePre m b j l (now x) (now work) ⌝ }
+    ensures { λ _. ⌜ now (x .exit) ≡ turned q r m b j l (now (x .entry)) ⌝ }
+{
+    if l == 1 {
+        lists::exchange(x, b, q, r);
+        return;
+    }
+    for i in 0..l {
+        let k = i + 1;
+        let at = k * b;
+        let end = at + b;
+        act(&mut x[at..end], &mut work[b..], m, j - 1, i, q, r);
+        lists::collect(work, x, b, k, i);
+        act(&mut x[at..end], &mut work[b..], m, j - k, l - k, q, r);
+    }
+    lists::turn(x, work, b, q, r);
+}
+
+// The letters act on x one by one. One letter needs no scratch.
+pub(crate) fn act_letters(x: &mut [u64], word: &[u8], m: usize, q: u64, r: u64)
+    requires { ⌜ (m ≤ 6) × (length (now x) ≡ factorial (suc m)) × Word m (now word) ⌝ }
+    ensures { λ _. ⌜ now (x .exit) ≡ act ℕ words q r m (now (word .entry)) (now (x .entry)) ⌝ }
+{
+    let mut none = [0u64; 0];
+    for i in 0..word.len() {
+        act(x, &mut none, m, word[i] as usize, 1, q, r);
+    }
+}

@@ -1,0 +1,86 @@
+// The product by the nested method: the recursion over the rank of the right factor.
+
+ghost use mathlib.Core.Path.{_≡_};
+ghost use Prim.Native.Nat.{suc};
+ghost use Rattle.algebra.specs.Numbers.{factorial};
+ghost use Rattle.hecke.specs.Steps.{multiplied, LayerPre, LayerPost, TimesPre};
+use crate::action;
+use crate::lists;
+
+// h g in the place of result, for h of rank m and g of rank l. The sum of the first k summands, one for each block of g, is in
+// the first words of scratch.
+pub(crate) fn times(
+    result: &mut [u64],
+    scratch: &mut [u64],
+    h: &[u64],
+    g: &[u64],
+    m: usize,
+    l: usize,
+    q: u64,
+    r: u64,
+)
+    requires { ⌜ TimesPre m l (now result) (now scratch) (now h) (now g) ⌝ }
+    ensures { λ _. ⌜ now (result .exit) ≡ multiplied q r m l (now (h .entry)) (now (g .entry)) ⌝ }
+{
+    if l == 0 {
+        lists::scale_into(result, g[0], h);
+        return;
+    }
+    let size = crate::size(m);
+    if l == 1 {
+        times_one(result, scratch, h, g, m, size, q, r);
+        return;
+    }
+    let lower = l - 1;
+    let part = crate::size(lower);
+    for k in 0..l {
+        layer(result, scratch, h, g, m, lower, k, size, part, q, r);
+        lists::collect(scratch, result, size, 0, k);
+    }
+    layer(result, scratch, h, g, m, lower, l, size, part, q, r);
+    lists::finish(result, scratch);
+}
+
+// h g in the place of result, for g of rank 1: g_0 h + (g_1 h) T_1.
+fn times_one(
+    result: &mut [u64],
+    scratch: &mut [u64],
+    h: &[u64],
+    g: &[u64],
+    m: usize,
+    size: usize,
+    q: u64,
+    r: u64,
+)
+    requires { ⌜ TimesPre m 1 (now result) (now scratch) (now h) (now g) × (size ≡ factorial (suc m)) ⌝ }
+    ensures { λ _. ⌜ now (result .exit) ≡ multiplied q r m 1 (now (h .entry)) (now (g .entry)) ⌝ }
+{
+    lists::scale_into(&mut scratch[0..size], g[0], h);
+    lists::scale_into(result, g[1], h);
+    action::act(result, &mut scratch[size..], m, 1, 1, q, r);
+    lists::finish(result, scratch);
+}
+
+// (h g_k) T_a(l+1,k) in the place of result, for the block g_k of g, of rank l and part words. The first size words of scratch
+// are kept.
+fn layer(
+    result: &mut [u64],
+    scratch: &mut [u64],
+    h: &[u64],
+    g: &[u64],
+    m: usize,
+    l: usize,
+    k: usize,
+    size: usize,
+    part: usize,
+    q: u64,
+    r: u64,
+)
+    requires { ⌜ LayerPre m l k size part (now result) (now scratch) (now h) (now g) ⌝ }
+    ensures { λ _. ⌜ LayerPost q r m l k size part (now (h .entry)) (now (g .entry)) (now (scratch .entry)) (now (result .exit)) (now (scratch .exit)) ⌝ }
+{
+    let at = k * part;
+    let end = at + part;
+    times(result, &mut scratch[size..], h, &g[at..end], m, l, q, r);
+    action::act(result, &mut scratch[size..], m, l + 1, k, q, r);
+}
