@@ -11,6 +11,7 @@ from pathlib import Path
 from reference import algebra
 from reference import permutations as p
 from reference.algebra import WORD
+from reference.hecke_vectors import hecke_vectors
 from reference.refusals import Refused
 
 ROOT = Path(__file__).resolve().parent.parent
@@ -255,7 +256,7 @@ def main(arguments):
     if arguments not in ([], ['--check']):
         sys.exit(__doc__)
     stale = []
-    for name, contents in chain(ring_vectors(), perms_vectors(), algebra_vectors()):
+    for name, contents in chain(ring_vectors(), perms_vectors(), algebra_vectors(), hecke_vectors()):
         path = ROOT / name
         if not arguments:
             path.write_bytes(contents)

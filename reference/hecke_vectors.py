@@ -1,0 +1,210 @@
+"""Calls on elements for the test program `hecke_vectors`, and their whole outcomes.
+
+A vector is a call, a rank, the word q or c, two lists of words, a word of letters, and the sizes of the lent result and
+scratch.
+"""
+import random
+
+from reference import algebra
+from reference.algebra import MOST_LETTERS, WORD, basis, size
+from reference.permutations import of_word, standard_word
+from reference.refusals import Refused
+
+SUM, SCALE, ACT_WORD, PRODUCT = range(1, 5)
+LENT = 170  # each word of the result and the scratch before the call
+SHOWN = 120  # the most words that are written in full
+DIGEST_BASE = 0x5851F42D4C957F2D
+QS = 0, 1, 2, 3, WORD - 1
+
+
+def record(call, m, q, left, right, word, room, scratch):
+    def number(n, width):
+        return n.to_bytes(width, 'little')
+
+    def words(a):
+        return number(len(a), 2) + b''.join(number(x, 8) for x in a)
+
+    return (bytes([call, m]) + number(q, 8) + words(left) + words(right) + number(len(word), 2) + bytes(word)
+            + number(room, 2) + number(scratch, 2))
+
+
+def digest(words):
+    """The words as digits of a number modulo 2^64, the first the highest."""
+    total = 0
+    for x in words:
+        total = (total * DIGEST_BASE + x) % WORD
+    return total
+
+
+def line(call, m, q, left, right, word, room, scratch):
+    """A and the count, or E with the number, the place and the count 0; the slice that the call writes; the scratch's digest."""
+    left, result, scratch = list(left), [LENT] * room, [LENT] * scratch
+    calls = {SUM: lambda: algebra.call_sum(m, left, right, result), SCALE: lambda: algebra.call_scale(m, q, left, result),
+             ACT_WORD: lambda: algebra.call_act(m, q, left, word),
+             PRODUCT: lambda: algebra.call_product(m, q, left, right, result, scratch)}
+    try:
+        fields = ['A', calls[call]()]
+    except Refused as refusal:
+        fields = ['E', refusal.number, refusal.place, 0]
+    written = left if call == ACT_WORD else result
+    fields += written if len(written) <= SHOWN else [digest(written)]
+    if call == PRODUCT:
+        fields.append(digest(scratch))
+    return ' '.join(map(str, fields)) + '\n'
+
+
+# ---- calls with slices that fit, or have some words more
+
+def on_sum(m, h, g, more=0):
+    return SUM, m, 0, h, g, [], max(0, len(h) + more), 0
+
+
+def on_scale(m, c, h, more=0):
+    return SCALE, m, c, h, [], [], max(0, len(h) + more), 0
+
+
+def on_word(m, q, h, word):
+    return ACT_WORD, m, q, h, [], word, 0, 0
+
+
+def on_product(m, q, h, g, more=0, scratch=0):
+    return PRODUCT, m, q, h, g, [], max(0, len(h) + more), (m + 6) * len(h) + scratch
+
+
+def on_all(m, q, h, g, word):
+    """Each of the four calls."""
+    yield on_sum(m, h, g)
+    yield on_scale(m, q, h)
+    yield on_word(m, q, h, word)
+    yield on_product(m, q, h, g, scratch=3)
+
+
+# ---- the cases
+
+def worked_cases():
+    """Document 01's squares: T of s_2 s_1 at rank 2, and T_1 at rank 1 with q = 0 and q = 1.
+
+    The examples in the comments of `hecke`, of which the word is also that of document 01's example sheet.
+    """
+    cycle = basis(of_word(2, [2, 1]))
+    yield on_product(2, 2, cycle, cycle)
+    for q in (0, 1):
+        yield on_product(1, q, [0, 1], [0, 1])
+    yield on_sum(1, [2, 3], [4, 5])
+    yield on_scale(1, 3, [2, 3])
+    yield on_word(1, 3, [1, 0], [1, 1])
+    yield on_product(1, 3, [0, 1], [0, 1])
+
+
+def random_element(source, m):
+    """Words of all sizes."""
+    return [source.randrange(2 ** source.choice((2, 8, 64))) for _ in range(size(m))]
+
+
+def random_word(source, m, most):
+    return [source.randrange(1, m + 1) for _ in range(source.randrange(most + 1))] if m else []
+
+
+def random_calls(source):
+    """Every call at ranks 0 to 4 with each of the q, and with random ones."""
+    for m in range(5):
+        for q in (*QS, *(source.randrange(WORD) for _ in range(3))):
+            yield from on_all(m, q, random_element(source, m), random_element(source, m), random_word(source, m, 12))
+
+
+def large_calls(source):
+    """Every call at ranks 5 and 6."""
+    for m in (5, 6):
+        word = list(range(1, m + 1)) * 3
+        yield from on_all(m, source.randrange(WORD), random_element(source, m), random_element(source, m), word)
+
+
+def ranks(source):
+    """Ranks above 6, whatever the slices are."""
+    h = random_element(source, 1)
+    for m in (7, 8, 64, 255):
+        yield from on_all(m, 3, [], [], [])
+        yield from on_all(m, 3, h, h, [0])
+    yield PRODUCT, 7, 3, h * 2520, h * 2520, [], 5040, 60480
+
+
+def sizes(source):
+    """The first list, the second and the result, one at a time: one word short, one word longer and empty.
+
+    At rank 6 only a scaling's result, one word short and one word longer. The scratch one word short, exact, one word and
+    20 words longer, and empty.
+    """
+    for m in (0, 1, 3):
+        h = random_element(source, m)
+        for other in (h[:-1], h + [1], []):
+            yield SUM, m, 0, other, h, [], len(h), 0
+            yield SUM, m, 0, h, other, [], len(h), 0
+            yield SUM, m, 0, h, h, [], len(other), 0
+            yield SCALE, m, 3, other, [], [], len(h), 0
+            yield SCALE, m, 3, h, [], [], len(other), 0
+            yield on_word(m, 3, other, [])
+            yield PRODUCT, m, 3, other, h, [], len(h), (m + 6) * len(h)
+            yield PRODUCT, m, 3, h, other, [], len(h), (m + 6) * len(h)
+            yield PRODUCT, m, 3, h, h, [], len(other), (m + 6) * len(h)
+    for more in (-1, 1):
+        yield on_scale(6, 3, random_element(source, 6), more=more)
+    for m in (0, 1, 3):
+        h, g = random_element(source, m), random_element(source, m)
+        for scratch in (-1, 0, 1, 20, -(m + 6) * size(m)):
+            yield on_product(m, 3, h, g, scratch=scratch)
+
+
+def shortest_words(source):
+    """The empty word at ranks 0 to 4; from rank 1 also the reversal's standard word, and that with one letter more.
+
+    The standard word is shortest. No permutation is longer than the reversal, so the other word is not shortest.
+    """
+    for m in range(5):
+        h, reversal = random_element(source, m), standard_word(range(1, m + 1))
+        for word in ([], reversal, reversal + [1]) if m else ([],):
+            yield on_word(m, source.randrange(WORD), h, word)
+
+
+def words(source):
+    """Letters 0, m + 1 and 255 as words of one letter; from rank 1 also at the first, a middle and the last of six indexes.
+
+    Words with two bad letters. At rank 6 the letters 6 and 7. Words of 4,096 letters, good and with a bad last letter, and of
+    4,097 letters.
+    """
+    yield on_word(6, 3, random_element(source, 6), [6, 7])
+    for m in (0, 1, 3):
+        h = random_element(source, m)
+        for letter in (0, m + 1, 255):
+            yield on_word(m, 3, h, [letter])
+        if m:
+            good = [1 + i % m for i in range(6)]
+            for index in (0, 2, 5):
+                for letter in (0, m + 1, 255):
+                    yield on_word(m, 3, h, good[:index] + [letter] + good[index + 1:])
+            for first, second in ((m + 1, 0), (0, m + 1), (255, 0)):
+                yield on_word(m, 3, h, good[:2] + [first, 1, second])
+    h = random_element(source, 2)
+    most = [1 + i % 2 for i in range(MOST_LETTERS)]
+    for word in (most, most[:-1] + [0], most + [1], most + [0], [0] + most):
+        yield on_word(2, 3, h, word)
+
+
+def order_of_checks(source):
+    """Two faults or more: the rank before a size, a size before the scratch and before the word."""
+    h = random_element(source, 2)
+    yield PRODUCT, 2, 3, h[:-1], h, [], 6, 0
+    yield PRODUCT, 2, 3, h, h[:-1], [], 6, 0
+    yield PRODUCT, 2, 3, h, h, [], 5, 0
+    yield PRODUCT, 7, 3, h, h[:-1], [], 5, 0
+    yield on_word(2, 3, h[:-1], [0])
+    yield on_word(2, 3, h[:-1], [1] * (MOST_LETTERS + 1))
+    yield on_word(7, 3, h, [0] * (MOST_LETTERS + 1))
+
+
+def hecke_vectors():
+    """Calls of the four functions on elements, and their whole outcomes."""
+    source = random.Random(0)
+    vectors = [*worked_cases(), *random_calls(source), *large_calls(source), *ranks(source), *sizes(source),
+               *shortest_words(source), *words(source), *order_of_checks(source)]
+    yield 'crates/hecke_vectors/stdin', b''.join(record(*v) for v in vectors)
+    yield 'crates/hecke_vectors/stdout', ''.join(line(*v) for v in vectors).encode()
