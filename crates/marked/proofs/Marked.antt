@@ -11,11 +11,39 @@ use Rattle.algebra.specs.Element.{coefficient, element, plus, scale, sumOver, b
 use Rattle.algebra.specs.Product.{minusOne, letter, act, times}
 use Rattle.algebra.specs.Nested.{operations, both, free, onward, _⧺_, row, _⊞_, _⊠_, sumRow, part, level, nestedAct, nested}
 use Rattle.algebra.specs.Cost.{cLine, c, C}
+use Rattle.hecke.specs.Calls.{rankVerdict, sizeVerdict, needed, scratchVerdict, productCall}
 use Rattle.marked.specs.Table.{Holds, table}
 
 pub marked : All Holds table
 unfolding modular words same less range tally product identity swap generator ofWord below len above entry towerOf cycle cycles standard
     ofCycles imagesOf factorial series block blocks place join perms coefficient element plus scale sumOver basis unit minusOne letter
-    act times operations both free onward _⧺_ row _⊞_ _⊠_ sumRow part level nestedAct nested cLine c C
-marked =
-    ((refl, refl), ((refl, refl), ((refl, refl), ((refl, refl), ((refl, refl), ((refl, refl), ((refl, refl), ((refl, refl), ((refl, refl), ((refl, refl), tt))))))))))
+    act times operations both free onward _⧺_ row _⊞_ _⊠_ sumRow part level nestedAct nested cLine c C rankVerdict sizeVerdict needed scratchVerdict
+    productCall
+marked = (
+  (refl, refl),
+  (
+    (refl, refl),
+    (
+      (refl, refl, refl),
+      (
+        (refl, refl, refl),
+        (
+          (refl, refl, refl),
+          (
+            (refl, refl),
+            (
+              (refl, refl),
+              (
+                (refl, refl),
+                (
+                  (refl, refl),
+                  (refl, (refl, (refl, (refl, ((refl, refl), tt))))),
+                ),
+              ),
+            ),
+          ),
+        ),
+      ),
+    ),
+  ),
+)

@@ -2,11 +2,13 @@
 --
 --   Case        a marked case: what is given, and what document 01 says of it
 --   Holds c     the definitions give what document 01 says: the list of permutations and their places; the tower and its images; a square by the
---               product over permutations and by the nested method; C and the count that the nested method carries
+--               product over permutations, by the nested method and as the product call's outcome; C and the count that the nested method
+--               carries; the count that the product call answers
 --   table       the marked cases of the crates that stand, in document 01's order
 use mathlib.Core.Path.{_≡_}
-use mathlib.Core.List.{List, [], _∷_, map}
-use Prim.Native.Nat.{ℕ, suc, _-_, _^_}
+use mathlib.Core.List.{List, [], _∷_, _++_, map}
+use Prim.Native.Nat.{ℕ, suc, _+_, _-_, _^_}
+use lib.ListN.{replicate}
 use Rattle.ring.specs.Modular.{words}
 use Rattle.perms.specs.Lists.{range}
 use Rattle.perms.specs.Permutation.{ofWord}
@@ -17,6 +19,7 @@ use Rattle.algebra.specs.Element.{basis, unit}
 use Rattle.algebra.specs.Product.{minusOne, times}
 use Rattle.algebra.specs.Nested.{operations, nested}
 use Rattle.algebra.specs.Cost.{C}
+use Rattle.hecke.specs.Calls.{accepted, needed, Outcome, Buffers, productCall}
 
 pub data Case : Type 0 where
   -- a rank, and the permutations of the indices 0, 1, .. as words
@@ -27,10 +30,16 @@ pub data Case : Type 0 where
   square : ℕ → ℕ → List ℕ → List ℕ → Case
   -- m, l and C(m, l)
   count : ℕ → ℕ → ℕ → Case
+  -- m, and C(m, m) as a product of rank m answers it
+  answered : ℕ → ℕ → Case
 
 -- T of the permutation of a word
 abbrev basisOf : ℕ → List ℕ → List ℕ
 basisOf m x = basis ℕ words m (ofWord m x)
+
+-- the product call on a slice that holds 7s, with scratch of 7s that is one word longer than needed
+abbrev called : (m q : ℕ) (h g : List ℕ) → Outcome Buffers
+called m q h g = productCall m q h g (replicate (factorial (suc m)) 7) (replicate (needed m + 1) 7)
 
 abbrev pub Holds : Case → Type 0
 Holds (indices m s) = (perms m ≡ map (ofWord m) s) × (map place (map (ofWord m) s) ≡ range 0 (factorial (suc m)))
@@ -38,7 +47,9 @@ Holds (images-tower w t) = (imagesOf t ≡ w) × (towerOf w ≡ t)
 Holds (square m q x h) =
     (times ℕ words q (minusOne ℕ words q) m m (basisOf m x) (basisOf m x) ≡ h)
     × (nested ℕ words q (minusOne ℕ words q) m m (basisOf m x) (basisOf m x) .value ≡ h)
+    × (called m q (basisOf m x) (basisOf m x) ≡ record { answer = accepted (C m m); lent = record { result = h; scratch = replicate (needed m) 0 ++ (7 ∷ []) } })
 Holds (count m l n) = (C m l ≡ n) × (operations (nested ℕ words 3 2 m l (unit ℕ words m) (unit ℕ words l) .count) ≡ n)
+Holds (answered m n) = called m 3 (unit ℕ words m) (unit ℕ words m) .answer ≡ accepted n
 
 abbrev pub table : List Case
 table =
@@ -51,5 +62,9 @@ table =
     ∷ count 1 1 9
     ∷ count 2 2 118
     ∷ count 3 3 2152
+    ∷ answered 0 1
+    ∷ answered 1 9
+    ∷ answered 2 118
+    ∷ answered 3 2152
     ∷ count 2 1 27
     ∷ []
