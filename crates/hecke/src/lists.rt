@@ -47,12 +47,14 @@ pub(crate) fn sum_into(d: &mut [u64], h: &[u64], g: &[u64])
     }
 }
 
-// c s in the place of d.
+// c s in the place of d, from the end.
 pub(crate) fn scale_into(d: &mut [u64], c: u64, s: &[u64])
     requires { ⌜ length (now d) ≡ length (now s) ⌝ }
     ensures { λ _. ⌜ now (d .exit) ≡ scale ℕ words c (now (s .entry)) ⌝ }
 {
-    for i in 0..s.len() {
+    let mut i = s.len();
+    while 0 < i {
+        i -= 1;
         d[i] = ring::mul(c, s[i]);
     }
 }
@@ -79,13 +81,15 @@ fn shift(x: &mut [u64], b: usize, q: u64, w: &[u64])
     copy(&mut x[top..], w);
 }
 
-// In the place of two blocks s and t of b words: q t and s + r t.
+// In the place of two blocks s and t of b words: q t and s + r t, from the end.
 pub(crate) fn exchange(x: &mut [u64], b: usize, q: u64, r: u64)
     requires { ⌜ length (now x) ≡ b + b ⌝ }
     ensures { λ _. ⌜ now (x .exit) ≡ scale ℕ words q (drop b (now (x .entry)))
         ++ plus ℕ words (take b (now (x .entry))) (scale ℕ words r (drop b (now (x .entry)))) ⌝ }
 {
-    for i in 0..b {
+    let mut i = b;
+    while 0 < i {
+        i -= 1;
         let s = x[i];
         let t = x[b + i];
         x[i] = ring::mul(q, t);

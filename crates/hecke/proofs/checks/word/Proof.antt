@@ -1,5 +1,7 @@
 -- The length is judged before the letters.
+use native.Mathlib.Omega.{arith}
 use borrow.Author.Needs.{needs}
+use lib.ListN.{length}
 use Rattle.perms.proofs.Test.{less-yes, less-no}
 use Rattle.hecke.specs.Calls.{wordVerdict}
 use Rattle.hecke.proofs.checks.word.Statement.{statement}
@@ -7,15 +9,17 @@ use Rattle.hecke.proofs.checks.word.Tie as tie
 
 returns : tie.Need-returns
 unfolding wordVerdict
-returns c = simp (less-yes (c .if1 .taken))
+returns c = simp (less-yes {x = 4096} {a = length (c .before .before .args .word .now)} (omega arith))
 
 returns-2 : tie.Need-returns-2
 unfolding wordVerdict
-returns-2 c = simp (less-no (c .before .before .if1 .left), ← (c .before .first-bad-letter .ensures), less-yes (c .if2 .taken))
+returns-2 c =
+    simp (less-no {x = 4096} {a = length (c .before .before .before .before .args .word .now)} (omega arith), ← (c .before .first-bad-letter .ensures), less-yes (c .if2 .taken))
 
 returns-3 : tie.Need-returns-3
 unfolding wordVerdict
-returns-3 c = simp (less-no (c .before .before .if1 .left), ← (c .before .first-bad-letter .ensures), less-no (c .if2 .left))
+returns-3 c =
+    simp (less-no {x = 4096} {a = length (c .before .before .before .before .args .word .now)} (omega arith), ← (c .before .first-bad-letter .ensures), less-no (c .if2 .left))
 
 pub word-spec : {M : Type 1} → statement M
 word-spec = tie.close (tie.spec returns (λ c κs. search needs) returns-2 returns-3)
