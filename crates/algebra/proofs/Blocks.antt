@@ -1,7 +1,7 @@
 -- Lists by blocks: the length of a block, rows of blocks, and every list as its blocks; maps go block by block. Rests on the definitions alone.
 use mathlib.Core.Path.{_≡_, refl, sym, ap, ap₂, _∙_}
 use mathlib.Core.List.{List, [], _∷_, _++_, map, append-nil, append-assoc, map-append}
-use Prim.Native.Nat.{ℕ, zero, suc, _+_, _*_, _<_}
+use Prim.Native.Nat.{ℕ, zero, suc, _+_, _*_, _≤_, _<_}
 use native.Mathlib.Nat.{zero-mul, suc-mul, mul-le-mul-right}
 use native.Mathlib.Omega.{arith}
 use lib.ListN.{length, take, drop, length-drop}
@@ -9,9 +9,12 @@ use lib.Seq.{length-take-le, take-add, take-all}
 use Rattle.algebra.specs.Blocks.{block, blocks}
 
 module _ {A : Type 0} where
-  pub block-length : (B n k : ℕ) (h : List A) → k < n → length h ≡ n * B → length (block B k h) ≡ B
+  pub block-size : (B k : ℕ) (h : List A) → k * B + B ≤ length h → length (block B k h) ≡ B
   unfolding block
-  block-length B n k h l e = length-take-le B (drop (k * B) h) (omega (arith, length-drop (k * B) h, e, mul-le-mul-right B l))
+  block-size B k h l = length-take-le B (drop (k * B) h) (omega (arith, length-drop (k * B) h))
+
+  pub block-length : (B n k : ℕ) (h : List A) → k < n → length h ≡ n * B → length (block B k h) ≡ B
+  block-length B n k h l e = block-size B k h (omega (arith, mul-le-mul-right B l))
 
   pub blocks-add : (a n : ℕ) (f : ℕ → List A) → blocks (a + n) f ≡ blocks a f ++ blocks n (λ i. f (a + i))
   unfolding blocks

@@ -16,9 +16,9 @@ use borrow.Rule.Slice.PartMut.{midOf, postOf, putMid, same-len-mid, take-put}
 use Rattle.ring.specs.Modular.{words}
 use Rattle.algebra.specs.Blocks.{block, blocks}
 use Rattle.algebra.specs.Element.{plus, scale}
-use Rattle.algebra.proofs.Blocks.{blocks-add, blocks-cong, map-blocks}
+use Rattle.algebra.proofs.Blocks.{block-size, blocks-add, blocks-cong, map-blocks}
 use Rattle.hecke.specs.Steps.{sums, collected, acted, kept, turned, ActPre, MiddlePre}
-use Rattle.hecke.proofs.Parts.{block-size, part-block, part-size, rest-size}
+use Rattle.hecke.proofs.Parts.{part-block, part-size, rest-size}
 use Rattle.hecke.proofs.Sums.{collected-sums}
 use Rattle.hecke.proofs.Passed.{Passed, passed-more, passed-all}
 use Rattle.hecke.proofs.Pieces.{acted-none}

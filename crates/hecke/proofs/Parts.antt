@@ -1,4 +1,5 @@
--- Parts of a list that are lent and come back: block k of b words, the first words, and the words from some index on. Rests on the definitions alone.
+-- Parts of a list that are lent and come back: block k of b words, the first words, and the words from some index on. Rests on
+-- algebra's Blocks.
 use mathlib.Core.Path.{_≡_, refl, sym, ap, _∙_}
 use mathlib.Core.List.{List, _++_, append-nil}
 use Prim.Native.Nat.{ℕ, zero, suc, _+_, _*_, _-_, _≤_, _<_}
@@ -10,6 +11,7 @@ use lib.Seq.{take-at, length-take-le, take-all}
 use borrow.Rule.Slice.PartMut.{putMid}
 use Rattle.algebra.specs.Numbers.{factorial}
 use Rattle.algebra.specs.Blocks.{block}
+use Rattle.algebra.proofs.Blocks.{block-size}
 
 -- ---- numbers
 
@@ -30,10 +32,6 @@ element-blocks zero b h e = absurd (omega arith)
 element-blocks (suc m) b h e = let s : m ≡ suc m - 1 = omega arith in ap (λ (n : ℕ). suc (suc m) * n) (ap (λ (n : ℕ). factorial (suc n)) s ∙ sym e)
 
 -- ---- block k, as it is lent
-
-pub block-size : (b k : ℕ) (x : List ℕ) → k * b + b ≤ length x → length (block b k x) ≡ b
-unfolding block
-block-size b k x h = length-take-le b (drop (k * b) x) (rw length-drop (omega arith))
 
 pub part-block : (b k : ℕ) (x : List ℕ) → take (k * b + b - k * b) (drop (k * b) x) ≡ block b k x
 unfolding block

@@ -1,17 +1,13 @@
--- The elements of a slice of 64-bit words are below 2^64, so a slice of M words is an element. Rests on the definitions alone.
+-- The elements of a slice of 64-bit words are below 2^64, so a slice of M words is an element. Rests on perms' All.
 use mathlib.Core.Path.{_≡_}
-use mathlib.Core.List.{List, [], _∷_}
+use mathlib.Core.List.{List}
 use Prim.Native.Nat.{ℕ, suc, _^_, _<_}
 use mir.Syntax.{w64}
 use mir.Val.{Fits}
 use lib.ListN.{length, getD}
-use Rattle.perms.specs.Lists.{All}
+use Rattle.perms.proofs.All.{all-index}
 use Rattle.algebra.specs.Numbers.{factorial}
 use Rattle.algebra.specs.Element.{Element}
 
-words-below : (x : List ℕ) → ((i : ℕ) → Fits w64 (getD x i 0)) → All (λ n. n < 2 ^ 64) x
-words-below [] f = tt
-words-below (a ∷ x) f = (f 0 .fits, words-below x (λ i. f (suc i)))
-
 pub slice-element : {m : ℕ} {x : List ℕ} → length x ≡ factorial (suc m) → ((i : ℕ) → Fits w64 (getD x i 0)) → Element (λ n. n < 2 ^ 64) m x
-slice-element {m} {x} e f = record { size = e; each = words-below x f }
+slice-element {x = x} e f = record { size = e; each = all-index (λ n. n < 2 ^ 64) x 0 (λ i l. f i .fits) }
