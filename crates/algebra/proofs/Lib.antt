@@ -51,3 +51,5 @@ pub mod Carry
 pub mod CarryMethod
 pub mod Closed
 pub mod Modular
+-- the pairing
+pub mod Pairing

@@ -5,6 +5,7 @@ pub mod Element
 pub mod Product
 pub mod Nested
 pub mod Cost
+pub mod Pairing
 pub mod Laws
 pub mod Method
 pub mod Maps
