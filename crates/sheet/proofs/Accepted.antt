@@ -1,0 +1,74 @@
+-- What acceptance says of a sheet: its size, and at each offset that a run reaches a good command, the end as the last byte. Rests on Cases.
+use mathlib.Core.Path.{_≡_, refl, sym, _∙_}
+use mathlib.Core.Logic.{_⊎_, inl, inr, ⊎-elim}
+use mathlib.Core.Bool.{Bool, true, false}
+use mathlib.Core.List.{List}
+use Prim.Native.Nat.{ℕ, _≤_, _<_}
+use native.Mathlib.Omega.{arith}
+use lib.ListN.{length}
+use Rattle.perms.specs.Lists.{same, less}
+use Rattle.perms.proofs.Test.{less-false, SameView, is, isnt, same?, LessView, lt, ge, less?, same-yes, same-no, less-yes, less-no}
+use Rattle.sheet.specs.Check.{unless, isEnd, checkSheet}
+use Rattle.sheet.specs.Table.{Good}
+use Rattle.sheet.specs.declared.Command.{Command}
+use Rattle.sheet.specs.declared.Command.the-variants.{End}
+use Rattle.sheet.specs.declared.Refusal.{Refusal}
+use Rattle.sheet.specs.declared.Refusal.the-variants.{Size, Ending}
+use Rattle.sheet.specs.declared.Verdict.the-variants.{Accepted, Refused}
+use Rattle.sheet.proofs.Offsets.{found-within}
+use Rattle.sheet.proofs.CheckFrom.{checkFrom, from-start, stands}
+use Rattle.sheet.proofs.Cases.{Case, nothing, unknown, short, disordered, outside, end, on, case?, order-fails, range-fails, good-on, good-end}
+
+refused : {why : Refusal} → Refused why ≡ Accepted → ⊥
+refused e = let z : _≡_ {A = ℕ} 0 1 = cc in omega arith
+
+accepts-unless : (b : Bool) (why : Refusal) → unless b why ≡ Accepted → b ≡ false
+accepts-unless false why e = refl
+accepts-unless true why e = absurd (refused e)
+
+-- ---- from an offset on
+
+pub record Next (s : List ℕ) (at : ℕ) : Type 0 where
+  pub command : Command
+  pub after : ℕ
+  pub good : Good s at command after
+  pub rest : ((isEnd command ≡ true) × (after ≡ length s)) ⊎ ((isEnd command ≡ false) × (checkFrom s after ≡ Accepted))
+
+pub accepted-next : (s : List ℕ) (at : ℕ) → checkFrom s at ≡ Accepted → Next s at
+unfolding isEnd same
+accepted-next s at a = go (case? s at)
+  where
+    go : Case s at → Next s at
+    go (nothing d) = absurd (refused (sym (stands s at d) ∙ a))
+    go (unknown d) = absurd (refused (sym (stands s at d) ∙ a))
+    go (short d) = absurd (refused (sym (stands s at d) ∙ a))
+    go (disordered x) = absurd (refused (sym (order-fails s at x) ∙ a))
+    go (outside x) = absurd (refused (sym (range-fails s at x) ∙ a))
+    go (end after g) =
+        let past = less-false after (length s) (accepts-unless (less after (length s)) (Ending after) (sym (good-end s at g) ∙ a)) in
+        let w = found-within s at (g .stands) in
+        record { command = End; after = after; good = g; rest = inl (refl, omega arith) }
+    go (on c after g e) = record { command = c; after = after; good = g; rest = inr (e, sym (good-on s at g e) ∙ a) }
+
+-- ---- a whole sheet
+
+pub sized : (s : List ℕ) → 0 < length s → length s ≤ 4096 → checkSheet s ≡ checkFrom s 0
+unfolding checkSheet
+sized s l m = rw (same-no {x = length s} {a = 0} (λ e. omega arith), less-no m) (sym (from-start s))
+
+pub missized : (s : List ℕ) → (length s ≡ 0) ⊎ (4096 < length s) → checkSheet s ≡ Refused Size
+unfolding checkSheet
+missized s (inl e) = rw (same-yes e) refl
+missized s (inr h) = rw (same-no {x = length s} {a = 0} (λ e. omega arith), less-yes h) refl
+
+pub size? : (s : List ℕ) → ((length s ≡ 0) ⊎ (4096 < length s)) ⊎ ((0 < length s) × (length s ≤ 4096))
+size? s = go (same? (length s) 0) (less? 4096 (length s))
+  where
+    go : SameView (length s) 0 → LessView 4096 (length s) → ((length s ≡ 0) ⊎ (4096 < length s)) ⊎ ((0 < length s) × (length s ≤ 4096))
+    go (is z e) v = inl (inl z)
+    go (isnt n e) (lt h f) = inl (inr h)
+    go (isnt n e) (ge h f) = inr (omega arith, h)
+
+pub accepted-start : (s : List ℕ) → checkSheet s ≡ Accepted → (0 < length s) × (length s ≤ 4096) × (checkFrom s 0 ≡ Accepted)
+accepted-start s a =
+    ⊎-elim (λ h. absurd (refused (sym (missized s h) ∙ a))) (λ h. (h .0, h .1, sym (sized s (h .0) (h .1)) ∙ a)) (size? s)

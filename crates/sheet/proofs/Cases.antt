@@ -1,0 +1,74 @@
+-- What stands at an offset, by cases, and how the check goes on in each. Rests on CheckFrom.
+--
+--   Case s at   what stands at an offset: none, an unknown code, a command that is cut off, out of order or out of range, the end, another one
+--   case? s at  which of these it is
+use mathlib.Core.Path.{_≡_, refl, _∙_}
+use mathlib.Core.Bool.{Bool, true, false}
+use mathlib.Core.List.{List}
+use Prim.Native.Nat.{ℕ}
+use lib.ListN.{length}
+use Rattle.perms.specs.Lists.{same, less}
+use Rattle.sheet.specs.Format.{decode}
+use Rattle.sheet.specs.Check.{unless, rank, isEnd, inOrder, inRange}
+use Rattle.sheet.specs.Steps.{judgedCommand}
+use Rattle.sheet.specs.Table.{Good, OutOfOrder, OutOfRange}
+use Rattle.sheet.specs.declared.Command.{Command}
+use Rattle.sheet.specs.declared.Command.the-variants.{End, Begin, Unit, Set, Letter, Product, Sum, Scale, Show, Pair, Equal}
+use Rattle.sheet.specs.declared.Decoded.{Decoded}
+use Rattle.sheet.specs.declared.Decoded.the-variants.{Found, NoCommand, Short, Nothing}
+use Rattle.sheet.specs.declared.Refusal.the-variants.{Order, Range, Ending}
+use Rattle.sheet.specs.declared.Verdict.the-variants.{Refused}
+use Rattle.sheet.proofs.CheckFrom.{checkFrom, stands}
+
+pub order-fails : (s : List ℕ) (at : ℕ) → OutOfOrder s at → checkFrom s at ≡ Refused (Order at)
+unfolding judgedCommand
+order-fails s at x = stands s at (x .stands) ∙ rw (x .order) refl
+
+pub range-fails : (s : List ℕ) (at : ℕ) → OutOfRange s at → checkFrom s at ≡ Refused (Range at)
+unfolding judgedCommand
+range-fails s at x = stands s at (x .stands) ∙ rw (x .order, x .range) refl
+
+pub good-on : {c : Command} {after : ℕ} (s : List ℕ) (at : ℕ) → Good s at c after → isEnd c ≡ false → checkFrom s at ≡ checkFrom s after
+unfolding judgedCommand
+good-on s at g e = stands s at (g .stands) ∙ rw (g .order, g .range, e) refl
+
+pub good-end : {after : ℕ} (s : List ℕ) (at : ℕ) → Good s at End after → checkFrom s at ≡ unless (less after (length s)) (Ending after)
+unfolding judgedCommand isEnd same
+good-end s at g = stands s at (g .stands) ∙ rw (g .order, g .range) refl
+
+pub data Case (s : List ℕ) (at : ℕ) : Type 0 where
+  nothing : decode s at ≡ Nothing → Case s at
+  unknown : decode s at ≡ NoCommand → Case s at
+  short : decode s at ≡ Short → Case s at
+  disordered : OutOfOrder s at → Case s at
+  outside : OutOfRange s at → Case s at
+  end : (after : ℕ) → Good s at End after → Case s at
+  on : (c : Command) (after : ℕ) → Good s at c after → isEnd c ≡ false → Case s at
+
+good-case : (c : Command) (s : List ℕ) (at after : ℕ) → Good s at c after → Case s at
+unfolding isEnd same
+good-case End s at after g = end after g
+good-case (Begin m q) s at after g = on _ after g refl
+good-case (Unit r) s at after g = on _ after g refl
+good-case (Set r i v) s at after g = on _ after g refl
+good-case (Letter r i) s at after g = on _ after g refl
+good-case (Product d a b) s at after g = on _ after g refl
+good-case (Sum d a b) s at after g = on _ after g refl
+good-case (Scale r v) s at after g = on _ after g refl
+good-case (Show r) s at after g = on _ after g refl
+good-case (Pair a b) s at after g = on _ after g refl
+good-case (Equal a b) s at after g = on _ after g refl
+
+pub case? : (s : List ℕ) (at : ℕ) → Case s at
+case? s at = go (decode s at) refl
+  where
+    command : {c : Command} {after : ℕ} → decode s at ≡ Found c after → (o r : Bool) → inOrder at c ≡ o → inRange (rank s) c ≡ r → Case s at
+    command {c} {after} d false r e f = disordered (record { link = record { command = c; after = after }; stands = d; order = e })
+    command {c} {after} d true false e f = outside (record { link = record { command = c; after = after }; stands = d; order = e; range = f })
+    command {c} {after} d true true e f = good-case c s at after (record { stands = d; order = e; range = f })
+
+    go : (d : Decoded) → decode s at ≡ d → Case s at
+    go (Found c after) e = command e (inOrder at c) (inRange (rank s) c) refl refl
+    go NoCommand e = unknown e
+    go Short e = short e
+    go Nothing e = nothing e

@@ -1,0 +1,84 @@
+-- The check from an offset on, one command after another. Rests on Offsets and Limit.
+--
+--   checkFrom s at   the first refusal of the sheet s from an offset on
+--   follow s r       the same, once what stands at an offset is judged
+use mathlib.Core.Path.{_≡_, refl, ap, _∙_}
+use mathlib.Core.Bool.{Bool, true, false, cond, not, _&&_}
+use mathlib.Core.List.{List, []}
+use Prim.Native.Nat.{ℕ, suc, _-_, _≤_, _<_}
+use native.Mathlib.Omega.{arith}
+use lib.ListN.{length}
+use Rattle.perms.specs.Lists.{less}
+use Rattle.sheet.specs.Format.{decode}
+use Rattle.sheet.specs.Check.{_then_, unless, rank, isEnd, inOrder, inRange, Placed, onward, placedFrom, placed, judge, firstRefusal}
+use Rattle.sheet.specs.Steps.{judgedCommand, judged}
+use Rattle.sheet.specs.declared.Decoded.{Decoded}
+use Rattle.sheet.specs.declared.Decoded.the-variants.{Found, NoCommand, Short, Nothing}
+use Rattle.sheet.specs.declared.Refusal.the-variants.{Order, Range, Ending}
+use Rattle.sheet.specs.declared.Verdict.{Verdict}
+use Rattle.sheet.specs.declared.Verdict.the-variants.{Refused}
+use Rattle.sheet.specs.declared.checks.Judged.{Judged}
+use Rattle.sheet.specs.declared.checks.Judged.the-variants.{On, Done}
+use Rattle.sheet.proofs.Offsets.{found-within, past-end}
+use Rattle.sheet.proofs.Limit.{placed-enough}
+
+abbrev pub checkFrom : List ℕ → ℕ → Verdict
+checkFrom s at = firstRefusal s (placedFrom (suc (length s - at)) s at)
+
+abbrev pub follow : List ℕ → Judged → Verdict
+follow s (On after) = checkFrom s after
+follow s (Done v) = v
+
+pub from-start : (s : List ℕ) → checkFrom s 0 ≡ firstRefusal s (placed s)
+unfolding placed
+from-start s = ap (λ n. firstRefusal s (placedFrom (suc n) s 0)) (omega arith)
+
+-- a command by its tests: in order, in range, the end, and bytes left after it
+settle : (s : List ℕ) (at after : ℕ) (rest : List Placed) (o r i l : Bool) → firstRefusal s rest ≡ checkFrom s after
+    → ((unless (not o) (Order at) then unless (not r) (Range at) then unless (i && l) (Ending after)) then firstRefusal s (cond i [] rest))
+    ≡ follow s (cond o (cond r (cond i (Done (unless l (Ending after))) (On after)) (Done (Refused (Range at)))) (Done (Refused (Order at))))
+unfolding firstRefusal
+settle s at after rest false r i l h = refl
+settle s at after rest true false i l h = refl
+settle s at after rest true true false l h = h
+settle s at after rest true true true true h = refl
+settle s at after rest true true true false h = refl
+
+pub step : (s : List ℕ) (at : ℕ) → checkFrom s at ≡ follow s (judged (length s) (rank s) at (decode s at))
+unfolding placedFrom firstRefusal judgedCommand
+step s at = go (decode s at) refl
+  where
+    left : ℕ
+    left = length s - at
+
+    go : (d : Decoded) → decode s at ≡ d → (judge s at d then firstRefusal s (onward d (placedFrom left s))) ≡ follow s (judged (length s) (rank s) at d)
+    go NoCommand e = refl
+    go Short e = refl
+    go Nothing e = refl
+    go (Found c after) e = let w = found-within s at e in
+        settle s at after (placedFrom left s after) (inOrder at c) (inRange (rank s) c) (isEnd c) (less after (length s))
+        (ap (firstRefusal s) (placed-enough left (suc (length s - after)) s after (omega arith) (omega arith)))
+
+pub stands : {d : Decoded} (s : List ℕ) (at : ℕ) → decode s at ≡ d → checkFrom s at ≡ follow s (judged (length s) (rank s) at d)
+stands s at e = step s at ∙ ap (λ d. follow s (judged (length s) (rank s) at d)) e
+
+pub from-end : (s : List ℕ) (at : ℕ) → length s ≤ at → checkFrom s at ≡ Refused (Ending at)
+from-end s at h = stands s at (past-end s at h)
+
+-- ---- what the code's loop goes by
+
+pub on-within : (s : List ℕ) (m at after : ℕ) → judged (length s) m at (decode s at) ≡ On after → (at < after) × (after ≤ length s)
+unfolding judgedCommand
+on-within s m at after e = go (decode s at) refl e
+  where
+    command : (o r i : Bool) (u v w : Verdict) (to : ℕ) → cond o (cond r (cond i (Done u) (On to)) (Done v)) (Done w) ≡ On after → to ≡ after
+    command true true false u v w to e = cc
+    command true true true u v w to e = cc
+    command true false i u v w to e = cc
+    command false r i u v w to e = cc
+
+    go : (d : Decoded) → decode s at ≡ d → judged (length s) m at d ≡ On after → (at < after) × (after ≤ length s)
+    go (Found c to) f h = found-within s at (rw (command (inOrder at c) (inRange m c) (isEnd c) _ _ _ to h) at f)
+    go NoCommand f h = let z : _≡_ {A = ℕ} 0 1 = cc in absurd (omega arith)
+    go Short f h = let z : _≡_ {A = ℕ} 0 1 = cc in absurd (omega arith)
+    go Nothing f h = let z : _≡_ {A = ℕ} 0 1 = cc in absurd (omega arith)

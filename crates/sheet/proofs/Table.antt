@@ -1,0 +1,94 @@
+-- A sheet is refused exactly where document 01's table says so. Rests on Cases and Accepted.
+use mathlib.Core.Path.{_≡_, refl, ap, subst, _∙_}
+use mathlib.Core.Logic.{inl, inr, ⊎-elim}
+use mathlib.Core.Bool.{false}
+use mathlib.Core.List.{List, [], _∷_, _++_}
+use Prim.Native.Nat.{ℕ, zero, suc, _-_, _≤_, _<_}
+use native.Mathlib.Nat.{le-refl}
+use native.Mathlib.Omega.{arith}
+use lib.ListN.{length}
+use Rattle.perms.proofs.Test.{LessView, lt, ge, less?, less-yes, less-no}
+use Rattle.sheet.specs.Check.{isEnd, checkSheet}
+use Rattle.sheet.specs.Table.{Good, Link, Leads, Reached, Ended, Says, Passes, Exactly}
+use Rattle.sheet.specs.declared.Command.{Command}
+use Rattle.sheet.specs.declared.Command.the-variants.{End}
+use Rattle.sheet.specs.declared.Refusal.{Refusal}
+use Rattle.sheet.specs.declared.Refusal.the-variants.{Size, Unknown, CutOff, Order, Range, Ending}
+use Rattle.sheet.specs.declared.Verdict.{Verdict}
+use Rattle.sheet.specs.declared.Verdict.the-variants.{Accepted, Refused}
+use Rattle.sheet.proofs.Offsets.{found-within, past-end, nothing-past}
+use Rattle.sheet.proofs.CheckFrom.{checkFrom, stands}
+use Rattle.sheet.proofs.Cases.{Case, nothing, unknown, short, disordered, outside, end, on, case?, order-fails, range-fails, good-on, good-end}
+use Rattle.sheet.proofs.Accepted.{sized, missized, size?}
+
+-- ---- the table says what the check finds
+
+abbrev Holds : List ℕ → Verdict → Type 0
+Holds s Accepted = Passes s
+Holds s (Refused why) = Says s why
+
+module _ {s : List ℕ} {at : ℕ} {c : Command} {after : ℕ} (g : Good s at c after) (e : isEnd c ≡ false) where
+  link : Link
+  link = record { command = c; after = after }
+
+  leads-on : (from : ℕ) (ls : List Link) → Leads s from ls at → Leads s from (ls ++ (link ∷ [])) after
+  unfolding link
+  leads-on from [] h = (rw h g, e, refl)
+  leads-on from (l ∷ ls) h = (h .0, h .1, leads-on (l .after) ls (h .2))
+
+  reached-on : Reached s at → Reached s after
+  reached-on r = record { least = r .least; most = r .most; links = r .links ++ (link ∷ []); leads = leads-on 0 (r .links) (r .leads) }
+
+found-from : (k : ℕ) (s : List ℕ) (at : ℕ) → length s - at < k → at ≤ length s → Reached s at → Holds s (checkFrom s at)
+found-from zero s at h m r = absurd (omega arith)
+found-from (suc k) s at h m r = go (case? s at) (found-from k s)
+  where
+    ended : (after : ℕ) → Good s at End after → LessView after (length s) → Holds s (checkFrom s at)
+    ended after g (lt l e) = rw (good-end s at g, e) (inr (record { at = at; reached = r; good = g }, l))
+    ended after g (ge l e) = let w = found-within s at (g .stands) in
+        rw (good-end s at g, e) (subst (Ended s) (omega arith) (record { at = at; reached = r; good = g }))
+
+    go : Case s at → ((after : ℕ) → length s - after < k → after ≤ length s → Reached s after → Holds s (checkFrom s after)) → Holds s (checkFrom s at)
+    go (nothing d) ih = let past = nothing-past s at d in rw (stands s at d) (inl (r, omega arith))
+    go (unknown d) ih = rw (stands s at d) (r, d)
+    go (short d) ih = rw (stands s at d) (r, d)
+    go (disordered x) ih = rw (order-fails s at x) (r, x)
+    go (outside x) ih = rw (range-fails s at x) (r, x)
+    go (end after g) ih = ended after g (less? after (length s))
+    go (on c after g e) ih = let w = found-within s at (g .stands) in
+        rw (good-on s at g e) (ih after (omega arith) (w .1) (reached-on g e r))
+
+found : (s : List ℕ) → Holds s (checkSheet s)
+found s = ⊎-elim (λ h. rw (missized s h) h)
+    (λ h. let start : Reached s 0 = record { least = h .0; most = h .1; links = []; leads = refl } in
+    rw (sized s (h .0) (h .1)) (found-from (suc (length s)) s 0 (omega arith) (omega arith) start))
+    (size? s)
+
+-- ---- the check finds what the table says
+
+led : (s : List ℕ) (at to : ℕ) (ls : List Link) → Leads s at ls to → checkFrom s at ≡ checkFrom s to
+led s at to [] h = ap (checkFrom s) h
+led s at to (l ∷ ls) h = good-on s at (h .0) (h .1) ∙ led s (l .after) to ls (h .2)
+
+reached : {s : List ℕ} {at : ℕ} → Reached s at → checkSheet s ≡ checkFrom s at
+reached {s} {at} r = sized s (r .least) (r .most) ∙ led s 0 at (r .links) (r .leads)
+
+says : (s : List ℕ) (why : Refusal) → Says s why → checkSheet s ≡ Refused why
+says s Size h = missized s h
+says s (Unknown at) h = reached (h .0) ∙ stands s at (h .1)
+says s (CutOff at) h = reached (h .0) ∙ stands s at (h .1)
+says s (Order at) h = reached (h .0) ∙ order-fails s at (h .1)
+says s (Range at) h = reached (h .0) ∙ range-fails s at (h .1)
+says s (Ending at) (inl h) = reached (h .0) ∙ stands s at (past-end s at (omega (arith, h .1)))
+says s (Ending at) (inr h) = let e = h .0 in reached (e .reached) ∙ good-end s (e .at) (e .good) ∙ rw (less-yes (h .1)) refl
+
+passes : (s : List ℕ) → Passes s → checkSheet s ≡ Accepted
+passes s e = reached (e .reached) ∙ good-end s (e .at) (e .good) ∙ rw (less-no (le-refl (length s))) refl
+
+pub exactly : (s : List ℕ) → Exactly s
+exactly s = record {
+  refused = λ why e. subst (Holds s) e (found s);
+  says = says s;
+  accepted = λ e. subst (Holds s) e (found s);
+  passes = passes s;
+}

@@ -1,0 +1,49 @@
+-- The loop's invariant: the check from `at` on is the check of the whole sheet.
+use mathlib.Core.Path.{_≡_, sym, ap, _∙_}
+use Prim.Native.Nat.{_-_, _≤_}
+use native.Mathlib.Omega.{arith}
+use borrow.Author.Needs.{needs}
+use lib.ListN.{length}
+use Rattle.sheet.specs.Format.{decode}
+use Rattle.sheet.specs.Check.{rank, placed, firstRefusal}
+use Rattle.sheet.specs.Steps.{judged}
+use Rattle.sheet.specs.declared.Refusal.the-variants.{Ending}
+use Rattle.sheet.specs.declared.Verdict.the-variants.{Refused}
+use Rattle.sheet.proofs.CheckFrom.{checkFrom, follow, from-start, from-end, step, on-within}
+use Rattle.sheet.proofs.checks.commands.Statement.{statement}
+use Rattle.sheet.proofs.checks.commands.Tie as tie
+
+abbrev Inv-loop : tie.InvT-loop
+Inv-loop sheet m n at₀ at = (at ≤ length sheet) × (checkFrom sheet at ≡ firstRefusal sheet (placed sheet))
+
+abbrev μ-loop : tie.MeasureT-loop
+μ-loop sheet m n at₀ at = length sheet - at
+
+loop-holds : tie.Need-loop-holds Inv-loop μ-loop
+loop-holds c = (omega arith, from-start _)
+
+told : (c : tie.After-judge Inv-loop μ-loop) → let u = c .before .before .before .before .before .args in
+    c .judge .result ≡ judged (length (u .sheet .now)) (rank (u .sheet .now)) (c .before .before .before .loop .at)
+    (decode (u .sheet .now) (c .before .before .before .loop .at))
+told c = let at = c .before .before .before in
+    c .judge .ensures ∙ (λ j. judged (length (at .before .before .args .sheet .now)) (at .before .before .pre j) (at .loop .at) (c .before .read .ensures j))
+
+loop-less : tie.Need-loop-less Inv-loop μ-loop
+loop-less c = let w = on-within _ _ _ _ (sym (told (c .before .before .before)) ∙ c .before .judged .given .1) in omega arith
+
+loop-again : tie.Need-loop-again Inv-loop μ-loop
+loop-again c = let at = c .before .before .before .before .before .before in let next = sym (told (c .before .before .before)) ∙ c .before .judged .given .1 in
+    (on-within _ _ _ _ next .1, sym (step _ (at .loop .at) ∙ ap (follow _) next) ∙ at .loop .inv .1)
+
+returns : tie.Need-returns Inv-loop μ-loop
+returns c = let at = c .before .before .before .before .before .before in let done = sym (told (c .before .before .before)) ∙ c .before .judged2 .given .1 in
+    sym (step _ (at .loop .at) ∙ ap (follow _) done) ∙ at .loop .inv .1
+
+returns-2 : tie.Need-returns-2 Inv-loop μ-loop
+returns-2 c = ap (λ n. Refused (Ending n)) (omega arith) ∙ sym (from-end _ _ (c .loop-test .left)) ∙ c .before .loop .inv .1
+
+pub commands-spec : {M : Type 1} → statement M
+commands-spec =
+    tie.close
+    (tie.spec Inv-loop μ-loop loop-holds (λ c κs. search needs) (λ c κs. search needs) (λ c. search needs) loop-less loop-again (λ c. search needs) returns
+    returns-2)

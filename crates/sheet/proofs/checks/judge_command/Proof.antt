@@ -1,0 +1,47 @@
+-- Each return is one of the tests, in their order.
+use mathlib.Core.Path.{_≡_, refl, sym, _∙_}
+use mathlib.Core.Bool.{true}
+use native.Mathlib.Omega.{arith}
+use borrow.Author.Needs.{needs}
+use borrow.Author.Tests.{not-true}
+use Rattle.perms.proofs.Test.{less-yes, less-no, not-false}
+use Rattle.sheet.specs.Check.{inOrder, inRange, isEnd}
+use Rattle.sheet.specs.Steps.{judgedCommand}
+use Rattle.sheet.proofs.checks.judge_command.Statement.{statement}
+use Rattle.sheet.proofs.checks.judge_command.Tie as tie
+
+ordered : (c : tie.Else1) → inOrder (c .before .before .args .at) (c .before .before .args .command) ≡ true
+ordered c = sym (c .before .in-order .ensures) ∙ not-false _ (c .if1 .left)
+
+ranged : (c : tie.Else2) → inRange (c .before .before .before .before .args .m) (c .before .before .before .before .args .command) ≡ true
+ranged c = sym (c .before .in-range .ensures) ∙ not-false _ (c .if2 .left)
+
+ends : (c : tie.Else3) → isEnd (c .before .before .before .before .before .before .args .command) ≡ true
+ends c = sym (c .before .is-end .ensures) ∙ not-false _ (c .if3 .left)
+
+returns : tie.Need-returns
+unfolding judgedCommand
+returns c = rw (sym (c .before .in-order .ensures) ∙ not-true _ (c .if1 .taken)) refl
+
+returns-2 : tie.Need-returns-2
+unfolding judgedCommand
+returns-2 c = rw (ordered (c .before .before), sym (c .before .in-range .ensures) ∙ not-true _ (c .if2 .taken)) refl
+
+returns-3 : tie.Need-returns-3
+unfolding judgedCommand
+returns-3 c = rw (ordered (c .before .before .before .before), ranged (c .before .before), sym (c .before .is-end .ensures) ∙ not-true _ (c .if3 .taken)) refl
+
+returns-4 : tie.Need-returns-4
+unfolding judgedCommand
+returns-4 c = let e = c .before in let u = e .before .before .before .before .before .before .args in
+    rw (ordered (e .before .before .before .before), ranged (e .before .before), ends e, less-yes {x = u .after} {a = u .n} (omega arith)) refl
+
+returns-5 : tie.Need-returns-5
+unfolding judgedCommand
+returns-5 c = let e = c .before in let u = e .before .before .before .before .before .before .args in
+    rw (ordered (e .before .before .before .before), ranged (e .before .before), ends e, less-no {x = u .after} {a = u .n} (omega arith)) refl
+
+pub judge-command-spec : {M : Type 1} → statement M
+judge-command-spec =
+    tie.close
+    (tie.spec (λ c κs. search needs) returns (λ c κs. search needs) returns-2 (λ c κs. search needs) returns-3 returns-4 returns-5)

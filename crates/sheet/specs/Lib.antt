@@ -1,0 +1,4 @@
+pub mod Format
+pub mod Check
+pub mod Steps
+pub mod Table

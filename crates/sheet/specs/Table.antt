@@ -1,0 +1,78 @@
+-- When a sheet is refused, as document 01's table says it, without the order in which a check goes.
+--
+--   Good s at c after         the command c stands at an offset of the sheet s, in order and in range, and the offset after it
+--   Link                      a command, and the offset after it
+--   Leads s at ls to          good commands, none of them the end, lead from one offset to another
+--   Reached s at              in a sheet of 1 to 4,096 bytes, they lead there from offset 0
+--   OutOfOrder s at           a command stands at an offset, out of order
+--   OutOfRange s at           a command stands at an offset, in order and with an operand out of range
+--   Ended s after             a good end command is reached, and the offset after it
+--   Says s why                the table's row for a refusal
+--   Passes s                  an end command is reached, and nothing stands after it
+--   Exactly s                 a sheet is refused exactly where the table says so, and accepted exactly where it passes
+use mathlib.Core.Path.{_≡_}
+use mathlib.Core.Bool.{true, false}
+use mathlib.Core.List.{List, [], _∷_}
+use mathlib.Core.Logic.{_⊎_}
+use Prim.Native.Nat.{ℕ, _≤_, _<_}
+use lib.ListN.{length}
+use Rattle.sheet.specs.Format.{decode}
+use Rattle.sheet.specs.Check.{rank, isEnd, inOrder, inRange, checkSheet}
+use Rattle.sheet.specs.declared.Command.{Command}
+use Rattle.sheet.specs.declared.Command.the-variants.{End}
+use Rattle.sheet.specs.declared.Decoded.the-variants.{Found, NoCommand, Short}
+use Rattle.sheet.specs.declared.Refusal.{Refusal}
+use Rattle.sheet.specs.declared.Refusal.the-variants.{Size, Unknown, CutOff, Order, Range, Ending}
+use Rattle.sheet.specs.declared.Verdict.the-variants.{Accepted, Refused}
+
+pub record Good (s : List ℕ) (at : ℕ) (c : Command) (after : ℕ) : Type 0 where
+  pub stands : decode s at ≡ Found c after
+  pub order : inOrder at c ≡ true
+  pub range : inRange (rank s) c ≡ true
+
+pub record Link : Type 0 where
+  pub command : Command
+  pub after : ℕ
+
+abbrev pub Leads : List ℕ → ℕ → List Link → ℕ → Type 0
+Leads s at [] to = at ≡ to
+Leads s at (l ∷ ls) to = Good s at (l .command) (l .after) × (isEnd (l .command) ≡ false) × Leads s (l .after) ls to
+
+pub record Reached (s : List ℕ) (at : ℕ) : Type 0 where
+  pub least : 0 < length s
+  pub most : length s ≤ 4096
+  pub links : List Link
+  pub leads : Leads s 0 links at
+
+pub record OutOfOrder (s : List ℕ) (at : ℕ) : Type 0 where
+  pub link : Link
+  pub stands : decode s at ≡ Found (link .command) (link .after)
+  pub order : inOrder at (link .command) ≡ false
+
+pub record OutOfRange (s : List ℕ) (at : ℕ) : Type 0 where
+  pub link : Link
+  pub stands : decode s at ≡ Found (link .command) (link .after)
+  pub order : inOrder at (link .command) ≡ true
+  pub range : inRange (rank s) (link .command) ≡ false
+
+pub record Ended (s : List ℕ) (after : ℕ) : Type 0 where
+  pub at : ℕ
+  pub reached : Reached s at
+  pub good : Good s at End after
+
+abbrev pub Says : List ℕ → Refusal → Type 0
+Says s Size = (length s ≡ 0) ⊎ (4096 < length s)
+Says s (Unknown at) = Reached s at × (decode s at ≡ NoCommand)
+Says s (CutOff at) = Reached s at × (decode s at ≡ Short)
+Says s (Order at) = Reached s at × OutOfOrder s at
+Says s (Range at) = Reached s at × OutOfRange s at
+Says s (Ending at) = (Reached s at × (at ≡ length s)) ⊎ (Ended s at × (at < length s))
+
+abbrev pub Passes : List ℕ → Type 0
+Passes s = Ended s (length s)
+
+pub record Exactly (s : List ℕ) : Type 0 where
+  pub refused : (why : Refusal) → checkSheet s ≡ Refused why → Says s why
+  pub says : (why : Refusal) → Says s why → checkSheet s ≡ Refused why
+  pub accepted : checkSheet s ≡ Accepted → Passes s
+  pub passes : Passes s → checkSheet s ≡ Accepted

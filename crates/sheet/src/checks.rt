@@ -1,0 +1,143 @@
+// The check of a sheet's commands: the first refusal by rising offset.
+
+ghost use mathlib.Core.Path.{_≡_};
+ghost use mathlib.Core.Bool.{not, _&&_, _||_};
+ghost use Prim.Native.Nat.{_≤_};
+ghost use Rattle.perms.specs.Lists.{same, less};
+ghost use Rattle.sheet.specs.Check.{codeOf, isEnd, inOrder, isRegister, operandsInRange, rank, placed, firstRefusal};
+ghost use Rattle.sheet.specs.Steps.{judgedCommand, judged};
+use crate::Command;
+use crate::Decoded;
+use crate::Refusal;
+use crate::Verdict;
+
+fn three_registers(d: usize, a: usize, b: usize) -> bool
+    ensures { λ r. ⌜ r ≡ (isRegister d && isRegister a && isRegister b) ⌝ }
+{
+    d < 4 && a < 4 && b < 4
+}
+
+fn two_registers(a: usize, b: usize) -> bool
+    ensures { λ r. ⌜ r ≡ (isRegister a && isRegister b) ⌝ }
+{
+    a < 4 && b < 4
+}
+
+fn is_letter(m: usize, i: u8) -> bool
+    ensures { λ r. ⌜ r ≡ not (same i 0 || less m i) ⌝ }
+{
+    i != 0 && i as usize <= m
+}
+
+// Whether the operands are in range in a sheet of rank m.
+pub(crate) fn operands_in_range(m: usize, command: Command) -> bool
+    requires { ⌜ m ≤ 5 ⌝ }
+    ensures { λ r. ⌜ r ≡ operandsInRange m command ⌝ }
+{
+    match command {
+        Command::End => true,
+        Command::Begin(rank, _) => rank == m,
+        Command::Unit(r) => r < 4,
+        Command::Set(r, i, _) => r < 4 && i < crate::size(m),
+        Command::Letter(r, i) => r < 4 && is_letter(m, i),
+        Command::Product(d, a, b) => three_registers(d, a, b),
+        Command::Sum(d, a, b) => three_registers(d, a, b),
+        Command::Scale(r, _) => r < 4,
+        Command::Show(r) => r < 4,
+        Command::Pair(a, b) => two_registers(a, b),
+        Command::Equal(a, b) => two_registers(a, b),
+    }
+}
+
+fn code_of(command: Command) -> u8
+    ensures { λ r. ⌜ r ≡ codeOf command ⌝ }
+{
+    match command {
+        Command::End => 0x00,
+        Command::Begin(_, _) => 0x10,
+        Command::Unit(_) => 0x20,
+        Command::Set(_, _, _) => 0x21,
+        Command::Letter(_, _) => 0x30,
+        Command::Product(_, _, _) => 0x31,
+        Command::Sum(_, _, _) => 0x32,
+        Command::Scale(_, _) => 0x33,
+        Command::Show(_) => 0x40,
+        Command::Pair(_, _) => 0x41,
+        Command::Equal(_, _) => 0x42,
+    }
+}
+
+fn is_end(command: Command) -> bool
+    ensures { λ r. ⌜ r ≡ isEnd command ⌝ }
+{
+    code_of(command) == 0x00
+}
+
+// Whether the first command is begin, or a later one is not.
+fn in_order(at: usize, command: Command) -> bool
+    ensures { λ r. ⌜ r ≡ inOrder at command ⌝ }
+{
+    let begins = code_of(command) == 0x10;
+    if at == 0 {
+        return begins;
+    }
+    !begins
+}
+
+// How the check goes on: at an offset, or with its verdict.
+pub(crate) enum Judged {
+    On(usize),
+    Done(Verdict),
+}
+
+// A command at an offset of a sheet of n bytes and rank m, with the offset after it.
+fn judge_command(n: usize, m: usize, at: usize, command: Command, after: usize) -> Judged
+    ensures { λ r. ⌜ r ≡ judgedCommand n m at command after ⌝ }
+{
+    if !in_order(at, command) {
+        return Judged::Done(Verdict::Refused(Refusal::Order(at)));
+    }
+    if !crate::in_range(m, command) {
+        return Judged::Done(Verdict::Refused(Refusal::Range(at)));
+    }
+    if !is_end(command) {
+        return Judged::On(after);
+    }
+    if after < n {
+        return Judged::Done(Verdict::Refused(Refusal::Ending(after)));
+    }
+    Judged::Done(Verdict::Accepted)
+}
+
+// What stands at an offset of a sheet of n bytes and rank m.
+fn judge(n: usize, m: usize, at: usize, found: Decoded) -> Judged
+    ensures { λ r. ⌜ r ≡ judged n m at found ⌝ }
+{
+    match found {
+        Decoded::NoCommand => Judged::Done(Verdict::Refused(Refusal::Unknown(at))),
+        Decoded::Short => Judged::Done(Verdict::Refused(Refusal::CutOff(at))),
+        Decoded::Found(command, after) => judge_command(n, m, at, command, after),
+        Decoded::Nothing => Judged::Done(Verdict::Refused(Refusal::Ending(at))),
+    }
+}
+
+// The first refusal of the commands of a sheet of rank m.
+pub(crate) fn commands(sheet: &[u8], m: usize) -> Verdict
+    requires { ⌜ m ≡ rank (now sheet) ⌝ }
+    ensures { λ r. ⌜ r ≡ firstRefusal (now (sheet .entry)) (placed (now (sheet .entry))) ⌝ }
+{
+    let n = sheet.len();
+    let mut at = 0;
+    while at < n {
+        let judged = judge(n, m, at, crate::read(sheet, at));
+        match judged {
+            Judged::On(after) => {
+                at = after;
+            }
+            Judged::Done(verdict) => {
+                return verdict;
+            }
+        }
+    }
+    Verdict::Refused(Refusal::Ending(n))
+}
