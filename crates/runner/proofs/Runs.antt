@@ -1,0 +1,44 @@
+-- What holds of the run of every sheet: the record `Runs`. Rests on Kept, Ahead and sheet's InRange.
+use mathlib.Core.Path.{_≡_, refl, sym, ap, _∙_}
+use mathlib.Core.List.{List}
+use Prim.Native.Nat.{ℕ, _+_, _*_, _-_, _<_}
+use native.Mathlib.Omega.{arith}
+use lib.ListN.{length, drop, replicate, length-drop, length-replicate, getD-replicate}
+use lib.Seq.{length-take-le, getD-take, getD-drop, ext-getD}
+use Rattle.sheet.specs.Check.{rank, parameter, size, placed, checkSheet}
+use Rattle.sheet.specs.declared.Verdict.{Verdict}
+use Rattle.sheet.specs.declared.Verdict.the-variants.{Accepted, Refused}
+use Rattle.sheet.proofs.InRange.{sized}
+use Rattle.runner.specs.Registers.{register}
+use Rattle.runner.specs.Run.{start, commands, ran}
+use Rattle.runner.specs.Runs.{Runs}
+use Rattle.runner.proofs.Ahead.{rank-low, all-in-range}
+use Rattle.runner.proofs.Kept.{Kept, kept-zeros, kept-all}
+
+module _ {M : ℕ} {x : List ℕ} (k : Kept M x) (r : ℕ) (four : r < 4) where
+  register-size : length (register r x) ≡ 720
+  unfolding register
+  register-size = length-take-le 720 (drop (720 * r) x) (rw length-drop (omega (arith, k .four)))
+
+  register-past : drop M (register r x) ≡ replicate (720 - M) 0
+  unfolding register
+  register-past =
+      let n : length (drop M (register r x)) ≡ 720 - M = length-drop M (register r x) ∙ ap (λ n. n - M) register-size in
+      ext-getD 0 (drop M (register r x)) (replicate (720 - M) 0) (n ∙ sym (length-replicate (720 - M) 0)) (λ i l.
+      getD-drop M (register r x) i 0
+      ∙ getD-take 720 (drop (720 * r) x) (M + i) 0 (omega arith)
+      ∙ getD-drop (720 * r) x (M + i) 0
+      ∙ k .past r (M + i) four (omega arith) (omega arith)
+      ∙ sym (getD-replicate (720 - M) i 0 0 (omega arith)))
+
+kept : (s : List ℕ) (v : Verdict) → checkSheet s ≡ v → Kept (size (rank s)) (ran v s .words)
+kept s (Refused why) e = kept-zeros (size (rank s))
+kept s Accepted e = rw (sized (rank s) (rank-low s e)) (kept-all (rank s) (parameter s) (commands (placed s)) start (all-in-range s e) (kept-zeros _))
+
+pub runs : (s : List ℕ) → Runs s
+runs s = let k = kept s (checkSheet s) refl in record {
+  four = register-size k;
+  past = register-past k;
+  refused = λ why e. rw e refl;
+  obeyed = all-in-range s;
+}

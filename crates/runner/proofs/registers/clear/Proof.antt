@@ -1,0 +1,32 @@
+-- The loop writes zeros. Rests on perms' Fill.
+use mathlib.Core.Path.{_≡_, refl, sym}
+use Prim.Native.Nat.{_-_, _≤_}
+use native.Mathlib.Omega.{arith}
+use lib.ListN.{length, length-replicate, getD-replicate}
+use Rattle.perms.proofs.Fill.{Filled, filled-none, filled-more, filled-all}
+use Rattle.runner.proofs.registers.clear.Statement.{statement}
+use Rattle.runner.proofs.registers.clear.Tie as tie
+
+abbrev Inv-loop : tie.InvT-loop
+Inv-loop d₀ i₀ i-end d i = (i ≤ i-end) × (i-end ≡ length d₀) × Filled (λ k. 0) d₀ d i
+
+abbrev μ-loop : tie.MeasureT-loop
+μ-loop d₀ i₀ i-end d i = i-end - i
+
+loop-holds : tie.Need-loop-holds Inv-loop μ-loop
+loop-holds c = (omega arith, refl, filled-none _ _)
+
+loop-again : tie.Need-loop-again Inv-loop μ-loop
+loop-again c = (omega arith, refl, filled-more _ (c .before .loop .inv .2) (omega arith) refl)
+
+same-length : tie.Need-same-length Inv-loop μ-loop
+same-length c = c .before .loop .inv .2 .same
+
+returns : tie.Need-returns Inv-loop μ-loop
+returns c = let n = length (c .before .before .args .d .now) in
+    filled-all _ (c .before .loop .inv .2) (omega arith) (length-replicate n 0) (λ k l. sym (getD-replicate n k 0 0 l))
+
+pub clear-spec : {M : Type 1} → statement M
+clear-spec =
+    tie.close
+    (tie.spec Inv-loop μ-loop loop-holds (λ c. omega arith) (λ c. omega arith) (λ c. omega arith) (λ c. omega arith) loop-again same-length returns)

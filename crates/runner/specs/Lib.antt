@@ -1,0 +1,4 @@
+pub mod Registers
+pub mod Run
+pub mod Runs
+pub mod Steps
