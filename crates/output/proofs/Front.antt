@@ -1,0 +1,28 @@
+-- How a call that prints ends, and that the text that it makes lies within the buffer. Rests on the definitions alone.
+use mathlib.Core.Path.{_≡_, sym, ap}
+use mathlib.Core.List.{List}
+use Prim.Native.Nat.{ℕ, _+_, _≤_}
+use native.Mathlib.Omega.{arith}
+use lib.ListN.{length, drop, length-append}
+use Rattle.sheet.specs.declared.Command.{Command}
+use Rattle.sheet.specs.declared.Refusal.{Refusal}
+use Rattle.output.specs.Steps.{overwrite, Written}
+use Rattle.output.specs.Printed.{Outcome, front, textCall, errorCall}
+
+pub front-written : {t buffer last : List ℕ} {k : ℕ} → Written 0 t buffer last k → front t buffer ≡ record { size = k; lent = last }
+unfolding front
+front-written {t} {k = k} h = let e : length t ≡ k = omega (arith, h .ends) in λ i. record { size = e i; lent = sym (h .text) i }
+
+front-within : (t buffer : List ℕ) {o : Outcome} → front t buffer ≡ o → o .size ≤ length (o .lent)
+unfolding front overwrite
+front-within t buffer e = omega (arith, ap (λ o. o .size) e, ap (λ o. length (o .lent)) e, length-append t (drop (0 + length t) buffer))
+
+module _ {k : ℕ} {last : List ℕ} where
+  pub text-within : (m q : ℕ) (c : Command) (x : List ℕ) (n : ℕ) (buffer : List ℕ) → textCall m q c x n buffer ≡ record { size = k; lent = last }
+      → k ≤ length last
+  unfolding textCall
+  text-within m q c x n buffer e = front-within _ buffer e
+
+  pub error-within : (why : Refusal) (buffer : List ℕ) → errorCall why buffer ≡ record { size = k; lent = last } → k ≤ length last
+  unfolding errorCall
+  error-within why buffer e = front-within _ buffer e

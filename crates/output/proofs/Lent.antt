@@ -1,0 +1,21 @@
+-- The part of the registers that the code lends, where there is room for what is shown: how long it is. Rests on runner's Put.
+use mathlib.Core.Path.{_≡_}
+use mathlib.Core.List.{List}
+use Prim.Native.Nat.{ℕ, _+_, _*_, _-_, _≤_, _<_}
+use native.Mathlib.Omega.{arith}
+use lib.ListN.{length, take, drop}
+use Rattle.sheet.specs.Check.{size}
+use Rattle.runner.specs.Steps.{Registers}
+use Rattle.runner.proofs.Put.{registers, small, lent-size}
+use Rattle.output.specs.Steps.{Shown}
+
+-- n is what `sheet::size` answers
+module _ {m n : ℕ} {x t : List ℕ} (s : Shown m x t) (e : n ≡ size m) where
+  pub held : Registers m n x
+  held = registers (s .low) (s .four) e
+
+  pub few : n ≤ 720
+  few = small held
+
+  pub lent-few : {r : ℕ} → r < 4 → length (take (720 * r + n - 720 * r) (drop (720 * r) x)) ≤ 720
+  lent-few four = omega (arith, lent-size held four, held .whole, few)
