@@ -3,12 +3,12 @@
 --   Case        a marked case: what is given, and what document 01 says of it
 --   Holds c     the definitions give what document 01 says: the list of permutations and their places; the tower and its images; a square by the
 --               product over permutations, by the nested method and as the product call's outcome; C and the count that the nested method
---               carries; the count that the product call answers
---   table       the marked cases of the crates that stand, in document 01's order
+--               carries; the count that the product call answers; the run of a sheet, and what is printed for it
+--   table       the marked cases, in document 01's order
 use mathlib.Core.Path.{_≡_}
 use mathlib.Core.List.{List, [], _∷_, _++_, map}
 use Prim.Native.Nat.{ℕ, suc, _+_, _-_, _^_}
-use lib.ListN.{replicate}
+use lib.ListN.{length, replicate}
 use Rattle.ring.specs.Modular.{words}
 use Rattle.perms.specs.Lists.{range}
 use Rattle.perms.specs.Permutation.{ofWord}
@@ -20,6 +20,9 @@ use Rattle.algebra.specs.Product.{minusOne, times}
 use Rattle.algebra.specs.Nested.{operations, nested}
 use Rattle.algebra.specs.Cost.{C}
 use Rattle.hecke.specs.Calls.{accepted, needed, Outcome, Buffers, productCall}
+use Rattle.sheet.specs.declared.Verdict.the-variants.{Accepted}
+use Rattle.runner.specs.Run.{given, runSheet}
+use Rattle.output.specs.Printed.{printed}
 
 pub data Case : Type 0 where
   -- a rank, and the permutations of the indices 0, 1, .. as words
@@ -32,6 +35,8 @@ pub data Case : Type 0 where
   count : ℕ → ℕ → ℕ → Case
   -- m, and C(m, m) as a product of rank m answers it
   answered : ℕ → ℕ → Case
+  -- the bytes of a sheet, the words at the front of register 0, the others being 0, the count, and what is printed
+  run : List ℕ → List ℕ → ℕ → List ℕ → Case
 
 -- T of the permutation of a word
 abbrev basisOf : ℕ → List ℕ → List ℕ
@@ -50,6 +55,7 @@ Holds (square m q x h) =
     × (called m q (basisOf m x) (basisOf m x) ≡ record { answer = accepted (C m m); lent = record { result = h; scratch = replicate (needed m) 0 ++ (7 ∷ []) } })
 Holds (count m l n) = (C m l ≡ n) × (operations (nested ℕ words 3 2 m l (unit ℕ words m) (unit ℕ words l) .count) ≡ n)
 Holds (answered m n) = called m 3 (unit ℕ words m) (unit ℕ words m) .answer ≡ accepted n
+Holds (run s h n t) = (runSheet s ≡ given Accepted (record { words = h ++ replicate (2880 - length h) 0; count = n })) × (printed s ≡ t)
 
 abbrev pub table : List Case
 table =
@@ -67,4 +73,10 @@ table =
     ∷ answered 2 118
     ∷ answered 3 2152
     ∷ count 2 1 27
+    ∷ run
+    (0x10 ∷ 0x01 ∷ 0x03 ∷ 0x00 ∷ 0x00 ∷ 0x00 ∷ 0x00 ∷ 0x00 ∷ 0x00 ∷ 0x00 ∷ 0x20 ∷ 0x00 ∷ 0x30 ∷ 0x00 ∷ 0x01 ∷ 0x30 ∷ 0x00 ∷ 0x01 ∷ 0x40 ∷ 0x00 ∷ 0x00 ∷ [])
+    (3 ∷ 2 ∷ [])
+    6
+    -- H 1 3, R 0, 0 3, 1 2, N 6
+    (72 ∷ 32 ∷ 49 ∷ 32 ∷ 51 ∷ 10 ∷ 82 ∷ 32 ∷ 48 ∷ 10 ∷ 48 ∷ 32 ∷ 51 ∷ 10 ∷ 49 ∷ 32 ∷ 50 ∷ 10 ∷ 78 ∷ 32 ∷ 54 ∷ 10 ∷ [])
     ∷ []
