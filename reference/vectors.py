@@ -13,6 +13,7 @@ from reference import permutations as p
 from reference.algebra import WORD
 from reference.hecke_vectors import hecke_vectors
 from reference.refusals import Refused
+from reference.sheet_vectors import sheet_vectors
 
 ROOT = Path(__file__).resolve().parent.parent
 
@@ -256,7 +257,7 @@ def main(arguments):
     if arguments not in ([], ['--check']):
         sys.exit(__doc__)
     stale = []
-    for name, contents in chain(ring_vectors(), perms_vectors(), algebra_vectors(), hecke_vectors()):
+    for name, contents in chain(ring_vectors(), perms_vectors(), algebra_vectors(), hecke_vectors(), sheet_vectors()):
         path = ROOT / name
         if not arguments:
             path.write_bytes(contents)

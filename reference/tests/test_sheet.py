@@ -6,10 +6,10 @@ from pathlib import Path
 
 from reference import algebra as a
 from reference import sheet as s
+from reference.sheet_cases import EXAMPLE
 from reference.tests.support import refused
 
 ROOT = Path(__file__).resolve().parents[2]
-EXAMPLE = bytes.fromhex('10 01 03 00 00 00 00 00 00 00 20 00 30 00 01 30 00 01 40 00 00')
 PRINTED = 'H 1 3\nR 0\n0 3\n1 2\nN 6\n'
 
 

@@ -1,0 +1,69 @@
+"""The sheets that programs are tried with: there are enough, and they reach every command and refusal."""
+import unittest
+
+from pathlib import Path
+
+from reference import sheet as s
+from reference.algebra import WORD, size
+from reference.refusals import Refused
+from reference.sheet_cases import END, cases, command, products_of_rank_5, short
+
+ROOT = Path(__file__).resolve().parents[2]
+
+
+def outcome(sheet):
+    """The number of the refusal, or the rank with the commands."""
+    try:
+        commands = s.check(sheet)
+    except Refused as refused:
+        return refused.number
+    return commands[0].operands['m'], {command.code for command in commands}
+
+
+class Cases(unittest.TestCase):
+    @classmethod
+    def setUpClass(cls):
+        cls.sheets = list(cases())
+        cls.outcomes = [outcome(sheet) for sheet in cls.sheets]
+        cls.valid = [x for x in cls.outcomes if isinstance(x, tuple)]
+
+    def test_enough(self):
+        self.assertGreaterEqual(len(set(self.sheets)), 500)
+        self.assertGreaterEqual(len(self.valid), 200)
+        self.assertEqual(len(set(short())), 256 + 256 * 256)
+
+    def test_the_same_every_time(self):
+        self.assertEqual(self.sheets, list(cases()))
+
+    def test_every_refusal(self):
+        self.assertLessEqual(set(range(9, 15)), set(x for x in self.outcomes if isinstance(x, int)))
+
+    def test_every_command_at_every_rank(self):
+        for rank in range(s.MOST_RANK + 1):
+            codes = set().union(*(codes for m, codes in self.valid if m == rank))
+            self.assertEqual(codes, set(s.OPERANDS) - ({s.LETTER} if rank == 0 else set()))
+
+    def test_aliased_registers_and_parameters_at_every_rank(self):
+        for rank in range(s.MOST_RANK + 1):
+            for q in (0, WORD - 1):
+                begin = command(s.BEGIN, rank, q)
+                for operands in ((1, 1, 2), (2, 1, 2), (1, 1, 1)):
+                    self.assertTrue(any(x.startswith(begin) and command(s.PRODUCT, *operands) in x for x in self.sheets))
+
+    def test_operands_at_and_past_their_bounds(self):
+        for rank in range(s.MOST_RANK + 1):
+            for index in (size(rank) - 1, size(rank)):
+                self.assertTrue(any(x.startswith(command(s.BEGIN, rank, 3) + command(s.SET, 3, index, 5)) for x in self.sheets))
+        for rank in (s.MOST_RANK, s.MOST_RANK + 1):
+            self.assertIn(command(s.BEGIN, rank, 3) + command(s.SHOW, 0) + END, self.sheets)
+
+    def test_example_of_products(self):
+        sheet = products_of_rank_5()
+        self.assertEqual((ROOT / 'examples' / 'products.sheet').read_bytes(), sheet)
+        self.assertEqual(outcome(sheet)[0], s.MOST_RANK)
+        self.assertLessEqual(4090, len(sheet))
+
+    def test_edges_of_the_size(self):
+        sizes = {len(sheet) for sheet in self.sheets}
+        self.assertLessEqual({0, 4095, 4096, 4097}, sizes)
+        self.assertTrue(any(isinstance(x, tuple) and len(sheet) == 4096 for sheet, x in zip(self.sheets, self.outcomes)))
