@@ -14,7 +14,7 @@ use Rattle.algebra.specs.Cost.{cLine, c, C}
 use Rattle.hecke.specs.Calls.{rankVerdict, sizeVerdict, needed, scratchVerdict, productCall}
 use Rattle.sheet.specs.Format.{byte, number, width, known, command, decode}
 use Rattle.sheet.specs.Check.{rank, parameter, isEnd, inOrder, isRegister, operandsInRange, inRange, placedFrom, placed, firstRefusal, checkSheet}
-use Rattle.runner.specs.Registers.{register, put, zeros}
+use Rattle.runner.specs.Registers.{register, overwrite, zeros}
 use Rattle.runner.specs.Registers.{element as register-element}
 use Rattle.runner.specs.Run.{obey, cost, obeyAll, commands, runSheet}
 use Rattle.output.specs.Text.{digits, decimal, pairLine, line, taggedPair, coefficients}
@@ -26,7 +26,7 @@ unfolding modular words same less range tally product identity swap generator of
     ofCycles imagesOf factorial series block blocks place join perms coefficient element plus scale sumOver basis unit minusOne letter
     act times operations both free onward _⧺_ row _⊞_ _⊠_ sumRow part level nestedAct nested cLine c C rankVerdict sizeVerdict needed scratchVerdict
     productCall byte number width known command decode rank parameter isEnd inOrder isRegister operandsInRange inRange placedFrom placed firstRefusal
-    checkSheet register register-element put zeros obey cost obeyAll commands runSheet digits decimal pairLine line taggedPair coefficients text
+    checkSheet register register-element overwrite zeros obey cost obeyAll commands runSheet digits decimal pairLine line taggedPair coefficients text
     texts printed
 marked = (
   (refl, refl),

@@ -6,7 +6,8 @@ use native.Mathlib.Omega.{arith}
 use lib.ListN.{length, drop, length-append}
 use Rattle.sheet.specs.declared.Command.{Command}
 use Rattle.sheet.specs.declared.Refusal.{Refusal}
-use Rattle.output.specs.Steps.{overwrite, Written}
+use Rattle.runner.specs.Registers.{overwrite}
+use Rattle.output.specs.Steps.{Written}
 use Rattle.output.specs.Printed.{Outcome, front, textCall, errorCall}
 
 pub front-written : {t buffer last : List ℕ} {k : ℕ} → Written 0 t buffer last k → front t buffer ≡ record { size = k; lent = last }

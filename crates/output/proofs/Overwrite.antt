@@ -1,17 +1,15 @@
--- Writes into a text, one after another. Rests on nothing here.
+-- Writes into a text, one after another. Rests on runner's Put.
 use mathlib.Core.Path.{_≡_, refl, sym, ap, ap₂, _∙_}
 use mathlib.Core.List.{List, [], _∷_, _++_, append-assoc}
 use Prim.Native.Nat.{ℕ, _+_, _≤_, _<_}
 use native.Mathlib.Numerals.{add-one}
 use native.Mathlib.Nat.{add-zero}
 use native.Mathlib.Omega.{arith}
-use lib.ListN.{length, take, drop, set, length-append, length-drop, take-append-drop}
+use lib.ListN.{length, take, drop, set, length-append, take-append-drop}
 use lib.Seq.{length-take-le, take-at, drop-append-add, drop-drop, set-split}
-use Rattle.output.specs.Steps.{overwrite, Written}
-
-length-overwrite : (at : ℕ) (x t : List ℕ) → at + length x ≤ length t → length (overwrite at x t) ≡ length t
-unfolding overwrite
-length-overwrite at x t h = simp (length-append, length-drop) (omega (arith, length-take-le at t (omega arith)))
+use Rattle.runner.specs.Registers.{overwrite}
+use Rattle.runner.proofs.Put.{overwrite-size}
+use Rattle.output.specs.Steps.{Written}
 
 overwrite-more : (at : ℕ) (x y t : List ℕ) → at ≤ length t → overwrite (at + length x) y (overwrite at x t) ≡ overwrite at (x ++ y) t
 unfolding overwrite
@@ -52,4 +50,4 @@ written-more {at} {x = x} {y} {t} a b h = record {
 }
 
 pub written-size : {at i : ℕ} {x t u : List ℕ} → Written at x t u i → at + length x ≤ length t → length u ≡ length t
-written-size {at} {x = x} {t} a h = ap length (a .text) ∙ length-overwrite at x t h
+written-size {at} {x = x} {t} a h = ap length (a .text) ∙ overwrite-size at x t h

@@ -23,10 +23,9 @@ use Rattle.sheet.specs.declared.Command.the-variants.{End, Begin, Unit, Set, Le
 use Rattle.sheet.specs.declared.Refusal.{Refusal}
 use Rattle.sheet.specs.declared.Verdict.{Verdict}
 use Rattle.sheet.specs.declared.Verdict.the-variants.{Accepted, Refused}
-use Rattle.runner.specs.Registers.{element}
+use Rattle.runner.specs.Registers.{element, overwrite}
 use Rattle.runner.specs.Run.{Machine, start, after, commands}
 use Rattle.output.specs.Text.{line, taggedPair, coefficients, room, errorRoom, equal}
-use Rattle.output.specs.Steps.{overwrite}
 
 -- the letters E, H, N, P, Q and R are 69, 72, 78, 80, 81 and 82
 unfoldable pub text : ℕ → ℕ → Command → Machine → List ℕ

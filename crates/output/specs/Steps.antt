@@ -1,18 +1,15 @@
 -- What inner contracts cite.
 --
---   overwrite at x t          the list t with x in the place of its elements from an index on
---   Written at x t u next     u is t so overwritten, and the next index
+--   Written at x t u next     u is t with x in the place of its elements from an index on, and the next index
 --   PairingPre m a b          two elements of rank m
 --   Shown m x t               the registers of a sheet of rank m, and a buffer with room for what a command prints
 use mathlib.Core.Path.{_≡_}
-use mathlib.Core.List.{List, _++_}
+use mathlib.Core.List.{List}
 use Prim.Native.Nat.{ℕ, suc, _+_, _≤_}
-use lib.ListN.{length, take, drop}
+use lib.ListN.{length}
 use Rattle.algebra.specs.Numbers.{factorial}
+use Rattle.runner.specs.Registers.{overwrite}
 use Rattle.output.specs.Text.{room}
-
-unfoldable pub overwrite : ℕ → List ℕ → List ℕ → List ℕ
-overwrite at x t = take at t ++ (x ++ drop (at + length x) t)
 
 pub record Written (at : ℕ) (x t u : List ℕ) (next : ℕ) : Type 0 where
   pub text : u ≡ overwrite at x t

@@ -11,7 +11,7 @@ use Rattle.sheet.specs.Check.{inRange}
 use Rattle.sheet.specs.declared.Command.{Command}
 use Rattle.runner.specs.Run as run
 use Rattle.runner.specs.declared.Answer.the-variants.{Obeyed}
-use Rattle.output.specs.Steps.{overwrite}
+use Rattle.runner.specs.Registers.{overwrite}
 use Rattle.output.specs.Text.{room}
 use Rattle.output.specs.Printed.{Outcome, text, front, textCall}
 use Rattle.run_sheet.specs.Pieces.{machine}

@@ -23,9 +23,9 @@ use Rattle.sheet.specs.Check.{inRange}
 use Rattle.sheet.specs.declared.Command.{Command}
 use Rattle.sheet.specs.declared.Command.the-variants as K
 use Rattle.sheet.proofs.InRange.{Within, low, within}
-use Rattle.runner.specs.Registers.{element, put, zeros}
+use Rattle.runner.specs.Registers.{element, overwrite, put, zeros}
 use Rattle.runner.specs.Run.{obey, Machine, after, obeyAll}
-use Rattle.runner.proofs.Put.{size-small, put-size, element-size}
+use Rattle.runner.proofs.Put.{size-small, overwrite-size, element-size}
 
 pub record Kept (M : ℕ) (x : List ℕ) : Type 0 where
   pub four : length x ≡ 2880
@@ -39,7 +39,7 @@ kept-zeros M = record {
 
 -- the words before and after the element that is put
 getD-put : (r : ℕ) (h x : List ℕ) (i : ℕ) → 720 * r + length h ≤ length x → (i < 720 * r) ⊎ (720 * r + length h ≤ i) → getD (put r h x) i 0 ≡ getD x i 0
-unfolding put
+unfolding overwrite
 getD-put r h x i fits (inl l) = let n = length-take-le (720 * r) x (omega arith) in
     List·getD-append (take (720 * r) x) (h ++ drop (720 * r + length h) x) 0 i (omega arith) ∙ getD-take (720 * r) x i 0 l
 getD-put r h x i fits (inr l) =
@@ -56,7 +56,7 @@ getD-put r h x i fits (inr l) =
 module _ {M : ℕ} (small : M ≤ 720) where
   kept-put : {x : List ℕ} (r : ℕ) (h : List ℕ) → r < 4 → length h ≡ M → Kept M x → Kept M (put r h x)
   kept-put {x} r h four size k = record {
-    four = put-size r h x (omega arith) ∙ k .four;
+    four = overwrite-size (720 * r) h x (omega arith) ∙ k .four;
     past = λ a i b l t. getD-put r h x (720 * a + i) (omega arith) (apart a i l t) ∙ k .past a i b l t;
   }
     where

@@ -20,7 +20,7 @@ use Rattle.algebra.specs.Numbers.{factorial}
 use Rattle.algebra.specs.Element.{Element}
 use Rattle.sheet.specs.Check.{size}
 use Rattle.sheet.proofs.InRange.{sized}
-use Rattle.runner.specs.Registers.{element, put}
+use Rattle.runner.specs.Registers.{element, overwrite, put}
 use Rattle.runner.specs.Steps.{Registers}
 
 -- ---- the size of an element
@@ -42,9 +42,9 @@ registers {m} low four is = record { low = low; whole = is ∙ sized m low; four
 
 -- ---- the list with h in register r
 
-pub put-size : (r : ℕ) (h x : List ℕ) → 720 * r + length h ≤ length x → length (put r h x) ≡ length x
-unfolding put
-put-size r h x fits = simp (length-append, length-drop, length-take-le (720 * r) x (omega arith)) (omega arith)
+pub overwrite-size : (at : ℕ) (h x : List ℕ) → at + length h ≤ length x → length (overwrite at h x) ≡ length x
+unfolding overwrite
+overwrite-size at h x fits = simp (length-append, length-drop, length-take-le at x (omega arith)) (omega arith)
 
 set-next : (p q : List ℕ) (n i v : ℕ) → length p ≡ n → set (p ++ q) (n + i) v ≡ p ++ set q i v
 set-next [] q n i v e = let z : n + i ≡ i = omega arith in ap (λ k. set q k v) z
@@ -53,7 +53,7 @@ set-next (y ∷ p) q (suc n) i v e = rw suc-add (ap {B = List ℕ} (λ t. y ∷ 
 
 -- a store in h
 pub put-set : (r i v : ℕ) (h x : List ℕ) → 720 * r ≤ length x → i < length h → set (put r h x) (720 * r + i) v ≡ put r (set h i v) x
-unfolding put
+unfolding overwrite
 put-set r i v h x le l =
     let rest = drop (720 * r + length h) x in
     set-next (take (720 * r) x) (h ++ rest) (720 * r) i v (length-take-le (720 * r) x le)
@@ -92,7 +92,7 @@ module _ {m size : ℕ} {x : List ℕ} (z : Registers m size x) where
     -- it came back as h
     pub back : {last h : List ℕ} → length last ≡ length (midOf (720 * r) (720 * r + size - 720 * r) x) → last ≡ h
         → putMid (720 * r) (720 * r + size - 720 * r) x last ≡ put r h x
-    unfolding put
+    unfolding overwrite
     back {last} {h} l e =
         ap (λ t. take (720 * r) x ++ (last ++ t))
         (post-is (720 * r) (720 * r + size) x (omega arith) ∙ ap (λ n. drop (720 * r + n) x) (z .whole ∙ sym (l ∙ lent-size)))

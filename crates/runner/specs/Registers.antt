@@ -2,6 +2,7 @@
 --
 --   register r x       the 720 words of register r
 --   element m r x      the element of rank m in register r
+--   overwrite at h x   the list x with h in the place of its elements from an index on
 --   put r h x          the list in which register r begins with the element h
 --   zeros m            the zero element of rank m
 use mathlib.Core.List.{List, _++_}
@@ -15,8 +16,11 @@ register r x = take 720 (drop (720 * r) x)
 unfoldable pub element : ℕ → ℕ → List ℕ → List ℕ
 element m r x = take (factorial (suc m)) (drop (720 * r) x)
 
-unfoldable pub put : ℕ → List ℕ → List ℕ → List ℕ
-put r h x = take (720 * r) x ++ (h ++ drop (720 * r + length h) x)
+unfoldable pub overwrite : ℕ → List ℕ → List ℕ → List ℕ
+overwrite at h x = take at x ++ (h ++ drop (at + length h) x)
+
+abbrev pub put : ℕ → List ℕ → List ℕ → List ℕ
+put r h x = overwrite (720 * r) h x
 
 unfoldable pub zeros : ℕ → List ℕ
 zeros m = replicate (factorial (suc m)) 0

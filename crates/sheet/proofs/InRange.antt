@@ -1,18 +1,17 @@
--- What it says that a command is in range: the rank is at most 5, and each operand is within its bounds. Rests on Tests and perms' Test.
+-- What it says that a command is in range: the rank is at most 5, and each operand is within its bounds. Rests on perms' Test.
 --
 --   Within m c   the operands of c are in range in a sheet of rank m
 use mathlib.Core.Path.{_≡_, refl, subst}
-use mathlib.Core.Bool.{true, not, _&&_, _||_}
+use mathlib.Core.Bool.{true, not, _&&_, _||_, and-eq-true-iff}
 use Prim.Native.Nat.{ℕ, suc, _≤_, _<_}
 use native.Mathlib.Omega.{arith}
-use Rattle.perms.specs.Lists.{same, less}
 use borrow.Author.Tests.{not-true}
+use Rattle.perms.specs.Lists.{same, less}
 use Rattle.perms.proofs.Test.{less-no, same-true, same-false, less-true, less-false, or-first, or-next}
 use Rattle.algebra.specs.Numbers.{factorial}
 use Rattle.sheet.specs.Check.{size, isRegister, operandsInRange, inRange}
 use Rattle.sheet.specs.declared.Command.{Command}
 use Rattle.sheet.specs.declared.Command.the-variants as K
-use Rattle.sheet.proofs.Tests.{both}
 
 pub sized : (m : ℕ) → m ≤ 5 → size m ≡ factorial (suc m)
 unfolding size
@@ -32,20 +31,22 @@ Within m (K.Pair a b) = (a < 4) × (b < 4)
 Within m (K.Equal a b) = (a < 4) × (b < 4)
 
 two : (a b : ℕ) → (less a 4 && less b 4) ≡ true → (a < 4) × (b < 4)
-two a b e = let f = both (less a 4) (less b 4) e in (less-true a 4 (f .0), less-true b 4 (f .1))
+two a b e = let f = and-eq-true-iff (less a 4) (less b 4) .0 e in (less-true a 4 (f .0), less-true b 4 (f .1))
 
 three : (d a b : ℕ) → (less d 4 && less a 4 && less b 4) ≡ true → (d < 4) × (a < 4) × (b < 4)
-three d a b e = let f = both (less d 4 && less a 4) (less b 4) e in let g = two d a (f .0) in (g .0, g .1, less-true b 4 (f .1))
+three d a b e = let f = and-eq-true-iff (less d 4 && less a 4) (less b 4) .0 e in let g = two d a (f .0) in (g .0, g .1, less-true b 4 (f .1))
 
 operands : (m : ℕ) (c : Command) → operandsInRange m c ≡ true → Within m c
 unfolding operandsInRange isRegister
 operands m K.End e = tt
 operands m (K.Begin n q) e = same-true n m e
 operands m (K.Unit r) e = less-true r 4 e
-operands m (K.Set r i v) e = let f = both (less r 4) (less i (factorial (suc m))) e in (less-true r 4 (f .0), less-true i (factorial (suc m)) (f .1))
+operands m (K.Set r i v) e =
+    let f = and-eq-true-iff (less r 4) (less i (factorial (suc m))) .0 e in
+    (less-true r 4 (f .0), less-true i (factorial (suc m)) (f .1))
 operands m (K.Letter r i) e =
     let bad = same i 0 || less m i in
-    let f = both (less r 4) (not bad) e in
+    let f = and-eq-true-iff (less r 4) (not bad) .0 e in
     let g = not-true bad (f .1) in
     let n = same-false i 0 (or-first (same i 0) (less m i) g) in
     (less-true r 4 (f .0), omega arith, less-false m i (or-next (same i 0) (less m i) g))
@@ -59,7 +60,7 @@ operands m (K.Equal a b) e = two a b e
 module _ (m : ℕ) (c : Command) (e : inRange m c ≡ true) where
   tests : (not (less 5 m) ≡ true) × (operandsInRange m c ≡ true)
   unfolding inRange
-  tests = both (not (less 5 m)) (operandsInRange m c) e
+  tests = and-eq-true-iff (not (less 5 m)) (operandsInRange m c) .0 e
 
   pub low : m ≤ 5
   low = less-false 5 m (not-true (less 5 m) (tests .0))

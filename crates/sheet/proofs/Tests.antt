@@ -1,10 +1,10 @@
--- Tests in a row, what tests that pass say, and the code's comparisons as the specification writes them. Rests on perms' Test.
+-- Tests in a row, and the code's comparisons as the specification writes them. Rests on perms' Test.
 use mathlib.Core.Path.{_≡_, refl, sym, ap, _∙_}
 use mathlib.Core.Bool.{Bool, true, false, not, _&&_, _||_}
 use Prim.Native.Nat.{ℕ, suc}
 use native.Mathlib.Omega.{arith}
 use lib.Dec.{eqb, leb, leb·suc-suc}
-use Rattle.perms.specs.Lists.{same, less, bit}
+use Rattle.perms.specs.Lists.{same, less}
 use Rattle.perms.proofs.Test.{LessView, lt, ge, less?, less-yes, less-no}
 
 pub and-on : {a : Bool} (b : Bool) → a ≡ true → b ≡ (a && b)
@@ -18,10 +18,6 @@ or-on b e = rw e refl
 
 pub or-off : {a : Bool} (b : Bool) → a ≡ false → b ≡ (a || b)
 or-off b e = rw e refl
-
-pub both : (a b : Bool) → (a && b) ≡ true → (a ≡ true) × (b ≡ true)
-both true b e = (refl, e)
-both false b e = absurd (omega (arith, ap bit e))
 
 pub same-test : {x y : ℕ} (a : ℕ) → x ≡ y → eqb x a ≡ same y a
 unfolding same
