@@ -80,12 +80,21 @@ def check(sheet):
     raise Refused(14, len(sheet))
 
 
+def cost(m, code):
+    """What a command counts in a sheet of rank m."""
+    if code == LETTER:
+        return algebra.letter_count(m)
+    if code == PRODUCT:
+        return algebra.product_count(m, m)
+    return algebra.size(m) if code in (SUM, SCALE) else 0
+
+
 def run(sheet):
     """Checks the sheet whole, then obeys its commands: the registers, the count, and the lines that are printed."""
     commands = check(sheet)
     m, q = commands[0].operands['m'], commands[0].operands['q']
     registers = [[0] * algebra.size(m) for _ in range(REGISTERS)]
-    count, lines = 0, [f'H {m} {q}']
+    lines = [f'H {m} {q}']
     for code, operands in commands[1:]:
         r, a, b, d = (operands.get(name) for name in 'rabd')
         if code == UNIT:
@@ -94,16 +103,12 @@ def run(sheet):
             registers[r][operands['index']] = operands['v']
         elif code == LETTER:
             registers[r] = algebra.times_generator(m, q, registers[r], operands['i'])
-            count += algebra.letter_count(m)
         elif code == PRODUCT:
             registers[d] = algebra.product(m, q, registers[a], registers[b])
-            count += algebra.product_count(m, m)
         elif code == SUM:
             registers[d] = algebra.add(registers[a], registers[b])
-            count += algebra.size(m)
         elif code == SCALE:
             registers[r] = algebra.scale(operands['v'], registers[r])
-            count += algebra.size(m)
         elif code == SHOW:
             lines.append(f'R {r}')
             lines += [f'{index} {x}' for index, x in enumerate(registers[r]) if x]
@@ -111,6 +116,7 @@ def run(sheet):
             lines.append(f'P {algebra.pairing(m, q, registers[a], registers[b])}')
         elif code == EQUAL:
             lines.append(f'Q {int(registers[a] == registers[b])}')
+    count = sum(cost(m, command.code) for command in commands)
     lines.append(f'N {count}')
     return Run([x + [0] * (REGISTER_WORDS - len(x)) for x in registers], count, lines)
 
