@@ -1,0 +1,10 @@
+-- The call, and what the caller is told of its answer.
+use borrow.Author.Needs.{needs}
+use Rattle.hecke_c.proofs.Told.{counted-call}
+use Rattle.hecke_c.proofs.hecke_tower_word.Statement.{statement}
+use Rattle.hecke_c.proofs.hecke_tower_word.Tie as tie
+
+pub hecke-tower-word-spec : {M : Type 1} → statement M
+hecke-tower-word-spec =
+    tie.close
+    (tie.spec (λ c κs. search needs) (λ c κs. search needs) (λ c. search needs) (λ c. search needs) (λ c. search (counted-call, needs)))

@@ -1,0 +1,4 @@
+pub mod Report
+pub mod Towers
+pub mod Elements
+pub mod Sheets
