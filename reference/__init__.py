@@ -1,7 +1,7 @@
 """The reference program: document 01 in plain Python, written from that document and, for formulas 4.1 to 4.4, the paper
 that it makes the standard.
 
-It shares nothing with the Rattle code. It makes the stored vectors and judges what the built programs print.
+It shares nothing with the Rattle code. It makes the stored vectors and the conformance kit, and judges what the built programs print.
 
     python3 -m reference < SHEET       run a sheet
     python3 -m reference.vectors       write the stored vectors (--check: compare them)

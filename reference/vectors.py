@@ -1,7 +1,9 @@
-"""The stored vectors: inputs and expected outputs of the test programs, and the table that `algebra` computes, made by this program.
+"""The stored vectors: inputs and expected outputs of the test programs, the table that `algebra` computes, and the sheets of the
+conformance kit with their texts, made by this program.
 
     python3 -m reference.vectors            write the files
-    python3 -m reference.vectors --check    say which files differ from what is made today, and fail if one does
+    python3 -m reference.vectors --check    say which files differ from what is made today or, in the kit, are not made, and fail if
+                                            there is one
 """
 import random
 import sys
@@ -11,6 +13,7 @@ from pathlib import Path
 from reference import algebra
 from reference import permutations as p
 from reference.algebra import WORD
+from reference.conformance import conformance_kit, strangers
 from reference.hecke_vectors import hecke_vectors
 from reference.refusals import Refused
 from reference.sheet_vectors import sheet_vectors
@@ -256,13 +259,17 @@ def algebra_vectors():
 def main(arguments):
     if arguments not in ([], ['--check']):
         sys.exit(__doc__)
-    stale = []
-    for name, contents in chain(ring_vectors(), perms_vectors(), algebra_vectors(), hecke_vectors(), sheet_vectors()):
+    made, stale = [], []
+    for name, contents in chain(ring_vectors(), perms_vectors(), algebra_vectors(), hecke_vectors(), sheet_vectors(), conformance_kit()):
         path = ROOT / name
+        made.append(name)
         if not arguments:
+            path.parent.mkdir(exist_ok=True)
             path.write_bytes(contents)
         elif not path.is_file() or path.read_bytes() != contents:
             stale.append(name)
+    if arguments:
+        stale += strangers(ROOT, made)
     if stale:
         sys.exit('not what the reference makes today: ' + ', '.join(stale))
 
