@@ -1,21 +1,22 @@
 /* Permutations, towers, elements of the Iwahori-Hecke algebra of type A, and run sheets.
  *
- * Every call is total: it returns for all numbers and all slices, reads and writes only within the slices, and checks all that it
- * is given before it writes. It returns 0, or the number of its refusal as document 01 has it; then it counts 0 and leaves every
- * lent slice but the report as it was.
+ * Every call is total: it returns for all numbers and all slices, reads and writes only within the slices, and checks all
+ * that it is given before it writes. It returns 0, or the number of its refusal as document 01 has it; then it counts 0 and
+ * leaves every lent slice but the report as it was.
  *
- * A slice is a pointer and the number of its elements. A null pointer with length 0 is an empty slice. What is the caller's part:
- * a pointer leads to as many elements as its length says, and a slice that is not const overlaps no other slice of the call.
+ * A slice is a pointer and the number of its elements. A null pointer with length 0 is an empty slice. What is the caller's
+ * part: a pointer leads to as many elements as its length says, and a slice that is not const overlaps no other slice of the
+ * call.
  *
  * The report is lent by the caller and may be empty. A call writes at its front, as far as it has room,
  *     report[0]  the place of the refusal; 0 where document 01 names none, and where nothing is refused
- *     report[1]  the count: ring operations of a call on elements; the length, the letters or the descents that a call on towers
- *                answers; else, and for a refusal, 0
+ *     report[1]  the count: ring operations of a call on elements; the length, the letters or the descents that a call on
+ *                towers answers; else, and for a refusal, 0
  * and hecke_tower_descents also report[2], the mask. Words after these stay as they were.
  *
- * A permutation of rank m is its image list, of m + 1 bytes; its tower is its inversion table, of m bytes: entry a_j, at index
- * j - 1, is the number of points before j + 1 whose image exceeds that of j + 1. An element of rank m is M = (m + 1)! words, its
- * coefficients modulo 2^64; that of T_w is at the index sum of a_j j!.
+ * A permutation of rank m is its image list, of m + 1 bytes; its tower is its inversion table, of m bytes: entry a_j, at
+ * index j - 1, is the number of points before j + 1 whose image exceeds that of j + 1. An element of rank m is M = (m + 1)!
+ * words, its coefficients modulo 2^64; that of T_w is at the index sum of a_j j!.
  */
 #ifndef HECKE_H
 #define HECKE_H
@@ -27,13 +28,13 @@
 extern "C" {
 #endif
 
-/* The tower of an image list. Refused: 5 no image or over 64; 6 the first image that is 0, too large or already seen; 8 a tower
- * of another size than one entry less than there are images. Images 2 3 1 give the tower 0 2. */
+/* The tower of an image list. Refused: 5 no image or over 64; 6 the first image that is 0, too large or already seen; 8 a
+ * tower of another size than one entry less than there are images. Images 2 3 1 give the tower 0 2. */
 uint8_t hecke_tower_of_images(const uint8_t *images, size_t images_len, uint8_t *tower, size_t tower_len,
                               uint64_t *report, size_t report_len);
 
-/* The image list of a tower. Refused: 5 over 63 entries; 7 the first entry a_j above j; 8 an image list of another size than one
- * image more than there are entries. The tower 0 2 gives the images 2 3 1. */
+/* The image list of a tower. Refused: 5 over 63 entries; 7 the first entry a_j above j; 8 an image list of another size than
+ * one image more than there are entries. The tower 0 2 gives the images 2 3 1. */
 uint8_t hecke_images_of_tower(const uint8_t *tower, size_t tower_len, uint8_t *images, size_t images_len,
                               uint64_t *report, size_t report_len);
 
@@ -43,8 +44,8 @@ uint8_t hecke_tower_inverse(const uint8_t *tower, size_t tower_len, uint8_t *res
                             uint64_t *report, size_t report_len);
 
 /* The tower of the product of two towers' permutations, the first of which acts first. Refused: 5 over 63 entries, or unequal
- * sizes; 7 the first entry a_j above j, of the first tower, then of the second; 8 a result of another size than the towers. The
- * towers 0 2 and 0 1 give 1 2. */
+ * sizes; 7 the first entry a_j above j, of the first tower, then of the second; 8 a result of another size than the towers.
+ * The towers 0 2 and 0 1 give 1 2. */
 uint8_t hecke_tower_product(const uint8_t *left, size_t left_len, const uint8_t *right, size_t right_len,
                             uint8_t *result, size_t result_len, uint64_t *report, size_t report_len);
 
@@ -52,15 +53,15 @@ uint8_t hecke_tower_product(const uint8_t *left, size_t left_len, const uint8_t 
  * counts 2. */
 uint8_t hecke_tower_length(const uint8_t *tower, size_t tower_len, uint64_t *report, size_t report_len);
 
-/* The standard shortest word of a tower's permutation; the count is the number of its letters. Bytes after them stay. Refused: 5
- * over 63 entries; 7 the first entry a_j above j; 8 room for fewer bytes than there are letters. The tower 0 2 gives the word
- * 2 1 and counts 2. */
+/* The standard shortest word of a tower's permutation; the count is the number of its letters. Bytes after them stay.
+ * Refused: 5 over 63 entries; 7 the first entry a_j above j; 8 room for fewer bytes than there are letters. The tower 0 2
+ * gives the word 2 1 and counts 2. */
 uint8_t hecke_tower_word(const uint8_t *tower, size_t tower_len, uint8_t *word, size_t word_len,
                          uint64_t *report, size_t report_len);
 
 /* The descent set of a tower's permutation w, the generators s_i with a shorter s_i w, as a mask with s_i at bit i - 1, in
- * report[2]; the count is the number of its set bits. Refused, with mask 0: 5 over 63 entries; 7 the first entry a_j above j. The
- * tower 0 2 has the mask 2 and counts 1. */
+ * report[2]; the count is the number of its set bits. Refused, with mask 0: 5 over 63 entries; 7 the first entry a_j above j.
+ * The tower 0 2 has the mask 2 and counts 1. */
 uint8_t hecke_tower_descents(const uint8_t *tower, size_t tower_len, uint64_t *report, size_t report_len);
 
 /* The sum of two elements of rank m, coefficient by coefficient; counts M. Refused: 1 a rank above 6; 2 a slice that is not M
@@ -68,27 +69,27 @@ uint8_t hecke_tower_descents(const uint8_t *tower, size_t tower_len, uint64_t *r
 uint8_t hecke_sum(size_t m, const uint64_t *left, size_t left_len, const uint64_t *right, size_t right_len,
                   uint64_t *result, size_t result_len, uint64_t *report, size_t report_len);
 
-/* An element of rank m times the word c, coefficient by coefficient; counts M. Refused: 1 a rank above 6; 2 a slice that is not M
- * words. Of rank 1, 3 times 2 3 gives 6 9 and counts 2. */
+/* An element of rank m times the word c, coefficient by coefficient; counts M. Refused: 1 a rank above 6; 2 a slice that is
+ * not M words. Of rank 1, 3 times 2 3 gives 6 9 and counts 2. */
 uint8_t hecke_scale(size_t m, uint64_t c, const uint64_t *element, size_t element_len,
                     uint64_t *result, size_t result_len, uint64_t *report, size_t report_len);
 
-/* The word's generators T_i act on the element of rank m, left to right; counts 3M/2 a letter. Refused: 1 a rank above 6; 2 an
- * element that is not M words; 4 a word of over 4,096 letters (place 4,096), else the first letter that is 0 or above m. Of rank
- * 1 with q = 3, the word 1 1 makes 3 2 of 1 0 and counts 6. */
+/* The word's generators T_i act on the element of rank m, left to right; counts 3M/2 a letter. Refused: 1 a rank above 6; 2
+ * an element that is not M words; 4 a word of over 4,096 letters (place 4,096), else the first letter that is 0 or above m.
+ * Of rank 1 with q = 3, the word 1 1 makes 3 2 of 1 0 and counts 6. */
 uint8_t hecke_act_word(size_t m, uint64_t q, const uint8_t *word, size_t word_len,
                        uint64_t *element, size_t element_len, uint64_t *report, size_t report_len);
 
-/* The product of two elements of rank m; counts C(m, m). The first (m + 6) M words of scratch are zero afterwards, and the rest as
- * before. Refused: 1 a rank above 6; 2 a slice that is not M words; 3 scratch of fewer than (m + 6) M words. Of rank 1 with q = 3,
- * 0 1 and 0 1 give 3 2 and count 9. */
+/* The product of two elements of rank m; counts C(m, m). The first (m + 6) M words of scratch are zero afterwards, and the
+ * rest as before. Refused: 1 a rank above 6; 2 a slice that is not M words; 3 scratch of fewer than (m + 6) M words. Of rank
+ * 1 with q = 3, 0 1 and 0 1 give 3 2 and count 9. */
 uint8_t hecke_product(size_t m, uint64_t q, const uint64_t *left, size_t left_len, const uint64_t *right, size_t right_len,
                       uint64_t *result, size_t result_len, uint64_t *scratch, size_t scratch_len,
                       uint64_t *report, size_t report_len);
 
-/* The check of a whole run sheet. Refused: 9 a sheet that is empty or over 4,096 bytes; 10 to 13 each command, lowest offset first
- * (place its offset): unknown, operands cut off, out of order, operand out of range; 14 a byte after the end command (place its
- * offset), or no end command (place the sheet's length). A lone byte 0 is refused with 12 at 0. */
+/* The check of a whole run sheet. Refused: 9 a sheet that is empty or over 4,096 bytes; 10 to 13 each command, lowest offset
+ * first (place its offset): unknown, operands cut off, out of order, operand out of range; 14 a byte after the end command
+ * (place its offset), or no end command (place the sheet's length). A lone byte 0 is refused with 12 at 0. */
 uint8_t hecke_sheet_check(const uint8_t *sheet, size_t sheet_len, uint64_t *report, size_t report_len);
 
 #ifdef __cplusplus

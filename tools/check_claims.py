@@ -15,11 +15,13 @@ DECLARED = {
     '.antt': r'^\s*(?:(?:abbrev|unfoldable) )*pub (?:(?:record|data) )?{}(?: [^:=]*)? :',
     '.rt': r'^\s*(?:pub(?:\(crate\))? )?(?:extern "C" )?(?:fn|struct|enum) {}\b',
     '.py': r'^\s*(?:def|class) {}\b',
+    '.rs': r'^\s*fn {}\b',
+    '.c': r'^static void {}\(',
 }
 # where the names of a column are declared; the code, too, holds definitions, of structs
 COLUMNS = {
     'rule': r'',
-    'reference test': r'(?:reference|tools)/',
+    'reference test': r'(?:reference|tools|rust|tests)/',
     'definition': r'crates/\w+/(?:specs|src)/',
     'contract': r'crates/\w+/src/',
     'theorem': r'crates/\w+/proofs/',
