@@ -120,6 +120,10 @@ perm-made {t} {w} c e =
     let n : length w ≡ suc (length t) = ap length e ∙ length-imagesOf t c in
     (n, rw (n, e) (perm-is (length t) t c))
 
+-- and of the tower's rank
+pub perm-ranked : {m : ℕ} {t w : List ℕ} → Tower (length t) t → m ≡ length t → w ≡ imagesOf t → Perm m w
+perm-ranked {m} {t} {w} c n e = rw (n, e) (perm-is (length t) t c)
+
 pub back-and-there : (m : ℕ) (t : List ℕ) → Tower m t → towerOf (imagesOf t) ≡ t
 unfolding imagesOf ofCycles identity towerOf range
 back-and-there zero [] c = refl

@@ -42,5 +42,6 @@ pub mod Grow
 pub mod Spell
 pub mod Bitmask
 pub mod Verdicts
+pub mod Seen
 pub mod Writes
 pub mod Accepted

@@ -1,12 +1,16 @@
--- The mask of the numbers from 1 to m at which a test holds has m digits, and as many of them set as there are such numbers. Rests on nothing here.
-use mathlib.Core.Path.{_≡_, refl, ap, _∙_}
+-- The mask of the numbers from 1 to m at which a test holds has m digits, and as many of them set as there are such numbers. Its digits one by
+-- one and from the k-th on; the mask of one number more. Rests on Test.
+use mathlib.Core.Path.{_≡_, refl, ap, ap₂, _∙_}
+use mathlib.Core.Logic.{_≢_}
 use mathlib.Core.Bool.{Bool, true, false}
-use Prim.Native.Nat.{ℕ, zero, suc, _+_, _*_, _^_, _<_}
+use Prim.Native.Nat.{ℕ, zero, suc, _+_, _-_, _*_, _/_, _%_, _^_, _≤_, _<_}
 use native.Mathlib.Nat.{add-comm}
 use native.Mathlib.Omega.{arith}
 use lib.Count.{ones, ones-cat}
+use lib.Pow.{pow-add, high, low}
 use Rattle.perms.specs.Lists.{bit}
 use Rattle.perms.specs.Tower.{mask, number}
+use Rattle.perms.proofs.Test.{SameView, is, isnt, same?}
 
 pub mask-lt : (p : ℕ → Bool) (m : ℕ) → mask p m < 2 ^ m
 unfolding mask
@@ -29,3 +33,55 @@ ones-mask p (suc m) =
     ap ones (add-comm (mask p m) (bit (p (suc m)) * 2 ^ m))
     ∙ ones-cat m (bit (p (suc m))) (mask p m) (mask-lt p m)
     ∙ omega (arith, ones-bit (p (suc m)), ones-mask p m)
+
+-- ---- the digits
+
+-- the digits from the k-th on are those of the numbers after k, and the others those of the numbers up to k
+mask-cut : (p : ℕ → Bool) (k m : ℕ) → mask p (k + m) ≡ mask (λ i. p (k + i)) m * 2 ^ k + mask p k
+unfolding mask
+mask-cut p k zero = let e : k + 0 ≡ k = omega arith in rw e (omega arith)
+mask-cut p k (suc m) =
+    let e : k + suc m ≡ suc (k + m) = omega arith in
+    rw e (go (p (suc (k + m))) (mask-cut p k m) (pow-add 2 k m))
+  where
+    go : (b : Bool) → mask p (k + m) ≡ mask (λ i. p (k + i)) m * 2 ^ k + mask p k → 2 ^ (k + m) ≡ 2 ^ k * 2 ^ m
+        → mask p (k + m) + bit b * 2 ^ (k + m) ≡ (mask (λ i. p (k + i)) m + bit b * 2 ^ m) * 2 ^ k + mask p k
+    go true ih e = omega arith
+    go false ih e = omega arith
+
+pub mask-from : (p : ℕ → Bool) (k m : ℕ) → mask p (k + m) / 2 ^ k ≡ mask (λ i. p (k + i)) m
+mask-from p k m = ap (λ n. n / 2 ^ k) (mask-cut p k m) ∙ high (mask (λ i. p (k + i)) m) k (mask-lt p k)
+
+mask-lowest : (p : ℕ → Bool) (m : ℕ) → mask p (1 + m) % 2 ≡ bit (p 1)
+unfolding mask
+mask-lowest p m = ap (λ n. n % 2) (mask-cut p 1 m) ∙ low (mask (λ i. p (1 + i)) m) 1 (mask-lt p 1) ∙ omega arith
+
+pub mask-digit : (p : ℕ → Bool) (k m : ℕ) → k < m → mask p m / 2 ^ k % 2 ≡ bit (p (suc k))
+mask-digit p k m h =
+    let e : m ≡ k + (1 + (m - suc k)) = omega arith in
+    let f : k + 1 ≡ suc k = omega arith in
+    ap (λ n. mask p n / 2 ^ k % 2) e ∙ ap (λ n. n % 2) (mask-from p k (1 + (m - suc k))) ∙ mask-lowest (λ i. p (k + i)) (m - suc k)
+    ∙ ap (λ n. bit (p n)) f
+
+-- ---- other tests
+
+pub mask-same : (p q : ℕ → Bool) (m : ℕ) → ((v : ℕ) → v ≤ m → q v ≡ p v) → mask q m ≡ mask p m
+unfolding mask
+mask-same p q zero h = refl
+mask-same p q (suc m) h = ap₂ (λ n b. n + bit b * 2 ^ m) (mask-same p q m (λ v l. h v (omega arith))) (h (suc m) (omega arith))
+
+pub mask-none : (m : ℕ) → mask (λ v. false) m ≡ 0
+unfolding mask
+mask-none zero = refl
+mask-none (suc m) = omega (arith, mask-none m)
+
+-- q holds at k + 1 besides
+pub mask-more : (p q : ℕ → Bool) (k m : ℕ) → k < m → p (suc k) ≡ false → q (suc k) ≡ true → ((v : ℕ) → v ≢ suc k → q v ≡ p v) → mask q m ≡ mask p m + 2 ^ k
+unfolding mask
+mask-more p q k zero l a b h = absurd (omega arith)
+mask-more p q k (suc m) l a b h = go (mask-more p q k m) (same? m k)
+  where
+    go : (k < m → p (suc k) ≡ false → q (suc k) ≡ true → ((v : ℕ) → v ≢ suc k → q v ≡ p v) → mask q m ≡ mask p m + 2 ^ k) → SameView m k
+        → mask q m + bit (q (suc m)) * 2 ^ m ≡ mask p m + bit (p (suc m)) * 2 ^ m + 2 ^ k
+    go ih (is e f) = rw (e, a, b) (omega (arith, mask-same p q k (λ v n. h v (λ d. omega arith))))
+    go ih (isnt n f) = rw (h (suc m) (λ d. n (omega arith))) (omega (arith, ih (omega arith) a b h))

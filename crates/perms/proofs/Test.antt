@@ -114,3 +114,12 @@ or-next true b e = absurd (omega (arith, ap bit e))
 pub byte-bit : (b : Bool) → boolByte b ≡ bit b
 byte-bit true = refl
 byte-bit false = refl
+
+-- a test told by its number
+pub bit-true : (b : Bool) → bit b ≡ 1 → b ≡ true
+bit-true true e = refl
+bit-true false e = absurd (omega arith)
+
+pub bit-false : (b : Bool) → bit b ≢ 1 → b ≡ false
+bit-false true n = absurd (n refl)
+bit-false false n = refl

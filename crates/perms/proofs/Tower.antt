@@ -30,7 +30,7 @@ pub length-tower : (w : List ℕ) → length (towerOf w) ≡ pred (length w)
 unfolding towerOf
 length-tower w = length-map (range 1 (pred (length w))) (λ j. entry j w) ∙ length-range 1 (pred (length w))
 
-entry-le : (j : ℕ) (w : List ℕ) → entry j w ≤ j
+pub entry-le : (j : ℕ) (w : List ℕ) → entry j w ≤ j
 unfolding entry above
 entry-le j w = omega (arith, tally-size (λ y. less (getD w j 0) y) (take j w), length-take j w)
 

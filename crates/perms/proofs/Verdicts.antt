@@ -113,7 +113,7 @@ towers-accepted t u e = (
     equal (is p f) = p
     equal (isnt p f) = absurd (omega (arith, ap bit (ap not (sym f) ∙ or-next (a || b) d sizes)))
 
-good-image : (w : List ℕ) (i : ℕ) → badImage w i ≡ false → (1 ≤ getD w i 0) × (getD w i 0 ≤ length w) × (count (getD w i 0) (take i w) ≡ 0)
+pub good-image : (w : List ℕ) (i : ℕ) → badImage w i ≡ false → (1 ≤ getD w i 0) × (getD w i 0 ≤ length w) × (count (getD w i 0) (take i w) ≡ 0)
 unfolding badImage
 good-image w i e = (
   omega (arith, same-false x 0 (or-first a b both)),

@@ -1,50 +1,32 @@
 // The checks of image lists and towers: the first refusal in document 01's order.
 
 ghost use mathlib.Core.Path.{_≡_};
-ghost use Prim.Native.Nat.{_≤_, _<_};
-ghost use lib.ListN.{length, take};
-ghost use Rattle.perms.specs.Lists.{count};
-ghost use Rattle.perms.specs.Calls.{badImage, firstBadImage, firstBadEntry, imagesVerdict, entriesVerdict, towerVerdict, towersVerdict, _then_, exact};
+ghost use Prim.Native.Nat.{_≤_};
+ghost use lib.ListN.{length};
+ghost use Rattle.perms.specs.Calls.{firstBadImage, firstBadEntry, imagesVerdict, entriesVerdict, towerVerdict, towersVerdict, _then_, exact};
 use crate::Refusal;
 use crate::Verdict;
 
-// How often x stands before index i.
-fn count_before(images: &[u8], i: usize, x: u8) -> u8
-    requires { ⌜ (i ≤ length (now images)) × (i < 64) ⌝ }
-    ensures { λ r. ⌜ r ≡ count x (take i (now (images .entry))) ⌝ }
-{
-    let mut times: u8 = 0;
-    for k in 0..i {
-        times += (images[k] == x) as u8;
-    }
-    times
-}
-
-// Whether the image at index i is 0, too large or already seen.
-fn bad_image(images: &[u8], i: usize) -> bool
-    requires { ⌜ (i < length (now images)) × (length (now images) ≤ 64) ⌝ }
-    ensures { λ r. ⌜ r ≡ badImage (now (images .entry)) i ⌝ }
-{
-    let x = images[i];
-    if x == 0 {
-        return true;
-    }
-    if images.len() < x as usize {
-        return true;
-    }
-    0 < count_before(images, i, x)
-}
-
-// The index of the first bad image, else the number of images.
+// The index of the first bad image, else the number of images. In the mask of the images seen, x is at bit x - 1.
 fn first_bad_image(images: &[u8]) -> usize
     requires { ⌜ length (now images) ≤ 64 ⌝ }
     ensures { λ r. ⌜ r ≡ firstBadImage (now (images .entry)) ⌝ }
 {
     let n = images.len();
+    let mut seen: u64 = 0;
     for i in 0..n {
-        if bad_image(images, i) {
+        let x = images[i];
+        if x == 0 {
             return i;
         }
+        if n < x as usize {
+            return i;
+        }
+        let bit = x - 1;
+        if (seen >> bit) % 2 == 1 {
+            return i;
+        }
+        seen += 1 << bit;
     }
     n
 }

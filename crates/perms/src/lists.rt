@@ -5,28 +5,18 @@ ghost use mathlib.Core.List.{_++_};
 ghost use Prim.Native.Nat.{ℕ, suc, pred, _≤_, _<_};
 ghost use lib.ListN.{length, getD, take, drop};
 ghost use Rattle.perms.specs.Permutation.{Perm, inverse, product};
-ghost use Rattle.perms.specs.Tower.{above, towerOf, Tower, imagesOf};
+ghost use Rattle.perms.specs.Tower.{towerOf, Tower, imagesOf};
 ghost use Rattle.perms.specs.Extend.{extend};
 
-// How many of the images before index j exceed x.
-fn above_before(images: &[u8], j: usize, x: u8) -> u8
-    requires { ⌜ (j ≤ length (now images)) × (j < 64) ⌝ }
-    ensures { λ r. ⌜ r ≡ above x (take j (now (images .entry))) ⌝ }
-{
-    let mut larger: u8 = 0;
-    for i in 0..j {
-        larger += (x < images[i]) as u8;
-    }
-    larger
-}
-
+// In the mask of the images before, the image x is at bit x - 1.
 pub(crate) fn fill_tower(images: &[u8], tower: &mut [u8])
-    requires { ⌜ (length (now images) ≡ suc (length (now tower))) × (length (now tower) ≤ 63) ⌝ }
+    requires { ⌜ (length (now tower) ≤ 63) × Perm (length (now tower)) (now images) ⌝ }
     ensures { λ _. ⌜ now (tower .exit) ≡ towerOf (now (images .entry)) ⌝ }
 {
+    let mut seen: u64 = 0;
     for i in 0..tower.len() {
-        let j = i + 1;
-        tower[i] = above_before(images, j, images[j]);
+        seen += 1 << (images[i] - 1);
+        tower[i] = u64::count_ones(seen >> (images[i + 1] - 1)) as u8;
     }
 }
 

@@ -1,6 +1,8 @@
 -- The images are judged, then the buffer; then the tower is written.
+use mathlib.Core.Path.{subst}
 use native.Mathlib.Omega.{arith}
 use borrow.Author.Needs.{needs}
+use Rattle.perms.specs.Permutation.{Perm}
 use Rattle.perms.specs.Calls.{towerOfCall}
 use Rattle.perms.proofs.Verdicts.{fitted, images-accepted}
 use Rattle.perms.proofs.Writes.{judged, write-refused, write-done}
@@ -14,8 +16,9 @@ returns c = write-refused _ _ (judged _ _ (c .before .before .before .fit .ensur
 fill-tower-requires : tie.Need-fill-tower-requires
 fill-tower-requires c κs =
     let fits = fitted _ _ _ (judged _ _ (c .before .before .before .fit .ensures) (c .before .before .before .before .images .ensures) (c .before .enum-told .given .1)) in
-    let good = images-accepted _ (fits .0) in
-    (omega (arith, fits .1), omega (arith, fits .1, good .1))
+    let w = c .before .before .before .before .before .before .before .args .images .now in
+    let good = images-accepted w (fits .0) in
+    (omega (arith, fits .1, good .1), subst (λ m. Perm m w) (omega (arith, fits .1)) (good .2))
 
 returns-2 : tie.Need-returns-2
 unfolding towerOfCall

@@ -1,10 +1,11 @@
 -- The image list, then the inverse, then its tower.
-use mathlib.Core.Path.{sym, ap, _∙_}
+use mathlib.Core.Path.{sym, ap, subst, _∙_}
 use native.Mathlib.Omega.{arith}
 use borrow.Author.Needs.{needs}
-use Rattle.perms.specs.Permutation.{inverse}
+use Rattle.perms.specs.Permutation.{Perm, inverse}
 use Rattle.perms.specs.Tower.{towerOf}
-use Rattle.perms.proofs.ImagesOf.{perm-made}
+use Rattle.perms.proofs.ImagesOf.{perm-made, perm-ranked}
+use Rattle.perms.proofs.Group.{perm-inverse}
 use Rattle.perms.proofs.lists.invert.Statement.{statement}
 use Rattle.perms.proofs.lists.invert.Tie as tie
 
@@ -13,6 +14,13 @@ fill-inverse-requires c κs =
     let start = c .before .before .before .before .before .before .before .before .before .before in
     let made = perm-made (start .pre .4) (c .before .before .before .before .fill-images .ensures) in
     (start .pre .1 ∙ sym (made .0), omega (arith, made .0, start .pre .3), made .1)
+
+fill-tower-requires : tie.Need-fill-tower-requires
+fill-tower-requires c κs =
+    let pre = c .before .before .before .before .before .before .before .before .before .before .before .before .before .before .before .pre in
+    let images = perm-ranked (pre .4) (pre .2) (c .before .before .before .before .before .before .before .before .before .fill-images .ensures) in
+    let points = subst (Perm _) (sym (c .before .before .before .before .fill-inverse .ensures)) (perm-inverse _ images) in
+    (omega (arith, pre .2, pre .3), search needs)
 
 returns : tie.Need-returns
 returns c =
@@ -23,4 +31,4 @@ returns c =
 pub invert-spec : {M : Type 1} → statement M
 invert-spec =
     tie.close
-    (tie.spec (λ c κs. search needs) fill-inverse-requires (λ c κs. search needs) (λ c. search needs) (λ c. search needs) (λ c. search needs) returns)
+    (tie.spec (λ c κs. search needs) fill-inverse-requires fill-tower-requires (λ c. search needs) (λ c. search needs) (λ c. search needs) returns)

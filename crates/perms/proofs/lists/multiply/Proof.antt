@@ -1,11 +1,11 @@
 -- The two image lists, then their product, then its tower.
-use mathlib.Core.Path.{sym, ap, ap₂, _∙_}
-use Prim.Native.Nat.{suc}
+use mathlib.Core.Path.{sym, ap, ap₂, subst, _∙_}
 use native.Mathlib.Omega.{arith}
 use borrow.Author.Needs.{needs}
-use Rattle.perms.specs.Permutation.{product}
+use Rattle.perms.specs.Permutation.{Perm, product}
 use Rattle.perms.specs.Tower.{towerOf}
-use Rattle.perms.proofs.ImagesOf.{perm-made}
+use Rattle.perms.proofs.ImagesOf.{perm-made, perm-ranked}
+use Rattle.perms.proofs.Group.{perm-product}
 use Rattle.perms.proofs.lists.multiply.Statement.{statement}
 use Rattle.perms.proofs.lists.multiply.Tie as tie
 
@@ -23,8 +23,9 @@ compose-requires c κs =
 fill-tower-requires : tie.Need-fill-tower-requires
 fill-tower-requires c κs =
     let pre = c .before .before .before .before .before .before .before .before .before .before .before .before .before .before .before .before .before .before .before .before .pre in
-    let made = perm-made (pre .5) (c .before .before .before .before .before .before .before .before .before .before .before .before .before .fill-images .ensures) in
-    (c .before .before .before .before .compose .kept .0 ∙ made .0 ∙ ap suc (sym (pre .2)), omega (arith, pre .2, pre .3))
+    let first = perm-ranked (pre .5) (pre .2) (c .before .before .before .before .before .before .before .before .before .before .before .before .before .fill-images .ensures) in
+    let second = perm-ranked (pre .6) (pre .2 ∙ pre .4) (c .before .before .before .before .before .before .before .before .before .fill-images2 .ensures) in
+    (omega (arith, pre .2, pre .3), subst (Perm _) (sym (c .before .before .before .before .compose .ensures)) (perm-product _ _ first second))
 
 returns : tie.Need-returns
 returns c =
