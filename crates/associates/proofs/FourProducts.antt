@@ -1,4 +1,4 @@
--- Four calls of the product, which leave (h g) k and h (g k): equal lists, by demand 3. Rests on hecke's Demand3.
+-- Four calls of the product, which leave (h g) k and h (g k): equal lists, by demand 3. Rests on element_calls' Demand3.
 --
 --   Called m q h g r s r' s'    a call of h g, with r for the result and s for scratch, left r' and s' there
 use mathlib.Core.Path.{_≡_, sym, ap, _∙_, subst}
@@ -9,10 +9,10 @@ use lib.ListN.{length}
 use Rattle.ring.specs.Modular.{words}
 use Rattle.algebra.specs.Numbers.{factorial}
 use Rattle.algebra.specs.Product.{minusOne, times}
-use Rattle.hecke.specs.declared.Answer.{Answer}
-use Rattle.hecke.specs.Calls.{needed, productCall}
-use Rattle.hecke.specs.Demand3.{E, Taken, Lawful}
-use Rattle.hecke.proofs.Demand3.{demand-3, product-lent}
+use Rattle.element_calls.specs.declared.Answer.{Answer}
+use Rattle.element_calls.specs.Calls.{needed, productCall}
+use Rattle.element_calls.specs.Demand3.{E, Taken, Lawful}
+use Rattle.element_calls.proofs.Demand3.{demand-3, product-lent}
 use Rattle.associates.specs.Sizes.{Sizes}
 
 pub record Called (m q : ℕ) (h g r s r' s' : List ℕ) : Type 0 where

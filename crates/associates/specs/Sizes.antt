@@ -4,7 +4,7 @@ use mathlib.Core.List.{List}
 use Prim.Native.Nat.{ℕ, suc, _≤_}
 use lib.ListN.{length}
 use Rattle.algebra.specs.Numbers.{factorial}
-use Rattle.hecke.specs.Calls.{needed}
+use Rattle.element_calls.specs.Calls.{needed}
 
 pub record Sizes (m : ℕ) (h g k part left right scratch : List ℕ) : Type 0 where
   pub rank : m ≤ 6

@@ -1,5 +1,4 @@
 -- lists and their parts
-mod Arms
 mod Sums
 pub mod WordSlices
 mod Loops
@@ -14,8 +13,3 @@ mod Letters
 -- the product
 mod Layers
 mod Products
--- the calls
-mod Verdicts
-mod Calls
--- demand 3
-pub mod Demand3

@@ -1,5 +1,5 @@
 -- The call of a product that passes its sizes: short scratch, or the product by the definition, its count, and zeros in the scratch.
--- Rests on Calls, Verdicts, perms' Test and algebra's Modular and Counts.
+-- Rests on element_calls' Calls, Sizes and Verdicts, perms' Test and algebra's Modular.
 use mathlib.Core.Path.{_≡_, refl, sym, ap, _∙_}
 use mathlib.Core.List.{List, _++_}
 use Prim.Native.Nat.{ℕ, suc, _+_, _*_, _-_, _^_, _≤_, _<_}
@@ -12,18 +12,17 @@ use Rattle.perms.proofs.Test.{less-yes}
 use Rattle.algebra.specs.Numbers.{factorial}
 use Rattle.algebra.specs.Element.{Element}
 use Rattle.algebra.specs.Product.{minusOne, times}
-use Rattle.algebra.specs.Nested.{operations, nested}
 use Rattle.algebra.specs.Cost.{C}
 use Rattle.algebra.proofs.Modular.{word-method}
-use Rattle.algebra.proofs.Counts.{counts}
-use Rattle.hecke.specs.declared.Refusal.{Refusal}
-use Rattle.hecke.specs.declared.Refusal.the-variants.{Scratch}
-use Rattle.hecke.specs.declared.Verdict.the-variants.{Accepted, Refused}
-use Rattle.hecke.specs.declared.Answer.{Answer}
+use Rattle.element_calls.specs.declared.Refusal.{Refusal}
+use Rattle.element_calls.specs.declared.Refusal.the-variants.{Scratch}
+use Rattle.element_calls.specs.declared.Verdict.the-variants.{Accepted, Refused}
+use Rattle.element_calls.specs.declared.Answer.{Answer}
 use Rattle.hecke.specs.Steps.{multiplied, TimesPre}
-use Rattle.hecke.specs.Calls.{_then_, rankVerdict, sizeVerdict, needed, scratchVerdict, accepted, refused, productCall}
-use Rattle.hecke.proofs.Verdicts.{then-fifth, scratch-taken, three-accepted}
-use Rattle.hecke.proofs.Calls.{write-refused, write-done, size-small}
+use Rattle.element_calls.specs.Calls.{_then_, rankVerdict, sizeVerdict, needed, scratchVerdict, accepted, refused, productCall}
+use Rattle.element_calls.proofs.Verdicts.{then-fifth, scratch-taken, three-accepted}
+use Rattle.element_calls.proofs.Sizes.{size-small}
+use Rattle.element_calls.proofs.Calls.{write-refused, write-done, product-counted}
 
 scratch-short : (m n : ℕ) → n < needed m → scratchVerdict m n ≡ Refused Scratch
 unfolding scratchVerdict
@@ -90,9 +89,6 @@ module _ {m : ℕ} {h g : List ℕ} (eh : Element (λ n. n < 2 ^ 64) m h) (eg : 
   unfolding multiplied
   product-value hq = word-method m q hq .value m (omega arith) h g eh eg
 
-  pub product-counted : operations (nested ℕ words q (minusOne ℕ words q) m m h g .count) ≡ C m m
-  product-counted = counts ℕ words q (minusOne ℕ words q) (λ n. n < 2 ^ 64) m .count m (omega arith) h g eh eg
-
   pub product-done : {s r k : ℕ} {result y u : List ℕ} {a : Answer} (scratch v : List ℕ) → Sized m s h g result → (m + 6) * s ≤ length scratch → q < 2 ^ 64
       → r ≡ minusOne ℕ words q → y ≡ multiplied q r m m h g → length v ≡ length (take ((m + 6) * s - 0) scratch)
       → u ≡ replicate (length (take ((m + 6) * s - 0) (v ++ drop ((m + 6) * s - 0) scratch))) 0 → k ≡ C m m → a ≡ accepted k
@@ -104,4 +100,4 @@ module _ {m : ℕ} {h g : List ℕ} (eh : Element (λ n. n < 2 ^ 64) m h) (eg : 
       let zeros = cleared ((m + 6) * s) scratch v u room lv eu ∙ ap (λ (n : ℕ). replicate n 0 ++ drop n scratch) (needed-is p) in
       write-done _ _ _ _
       (scratch-left p (length scratch) ∙ scratch-taken m (length scratch) (omega (arith, needed-is p)))
-      (λ i. record { result = value i; scratch = zeros i }) (ek ∙ sym product-counted) ea
+      (λ i. record { result = value i; scratch = zeros i }) (ek ∙ sym (product-counted eh eg q)) ea

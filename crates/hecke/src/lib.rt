@@ -8,67 +8,15 @@ ghost use Prim.Native.Nat.{suc, _≤_};
 ghost use Rattle.ring.specs.Modular.{words};
 ghost use Rattle.algebra.specs.Numbers.{factorial};
 ghost use Rattle.algebra.specs.Product.{minusOne};
-ghost use Rattle.algebra.specs.Cost.{C};
-ghost use Rattle.hecke.specs.Calls.{refusalNumber, refusalPlace, accepted, refused, sumCall, scaleCall, actWordCall, productCall};
+ghost use Rattle.element_calls.specs.Calls.{accepted, refused, sumCall, scaleCall, actWordCall, productCall};
+use element_calls::Answer;
+use element_calls::Refusal;
+use element_calls::Verdict;
+use element_calls::checks;
 
 mod action;
-mod checks;
 mod lists;
 mod multiply;
-
-// Why a call is refused.
-pub enum Refusal {
-    // A rank above 6.
-    Rank,
-    // An element's slice of another size than M words.
-    Size,
-    // A scratch slice that is too short.
-    Scratch,
-    // A word of over 4,096 letters.
-    Word,
-    // A letter, the first by its index, that is 0 or above the rank.
-    Letter(usize),
-}
-
-// Document 01's number of a refusal.
-// Example: a rank above 6 has the number 1.
-pub fn number_of(why: Refusal) -> u8
-    ensures { λ r. ⌜ r ≡ refusalNumber why ⌝ }
-{
-    match why {
-        Refusal::Rank => 1,
-        Refusal::Size => 2,
-        Refusal::Scratch => 3,
-        Refusal::Word => 4,
-        Refusal::Letter(_) => 4,
-    }
-}
-
-// Document 01's place of a refusal.
-// Example: the second letter, of index 1, has the place 1.
-pub fn place_of(why: Refusal) -> usize
-    ensures { λ r. ⌜ r ≡ refusalPlace why ⌝ }
-{
-    match why {
-        Refusal::Rank => 0,
-        Refusal::Size => 0,
-        Refusal::Scratch => 0,
-        Refusal::Word => 4096,
-        Refusal::Letter(i) => i,
-    }
-}
-
-// Whether what a call was given passes its checks; then the call has written its result.
-pub enum Verdict {
-    Accepted,
-    Refused(Refusal),
-}
-
-// The answer of a call, with the count of its ring operations.
-pub struct Answer {
-    pub verdict: Verdict,
-    pub count: u64,
-}
 
 fn accepted(count: u64) -> Answer
     ensures { λ a. ⌜ a ≡ accepted count ⌝ }
@@ -93,31 +41,7 @@ fn size(m: usize) -> usize
     requires { ⌜ m ≤ 6 ⌝ }
     ensures { λ r. ⌜ r ≡ factorial (suc m) ⌝ }
 {
-    match m {
-        0 => 1,
-        1 => 2,
-        2 => 6,
-        3 => 24,
-        4 => 120,
-        5 => 720,
-        _ => 5040,
-    }
-}
-
-// C(m, m), the ring operations of a product of rank m.
-fn product_count(m: usize) -> u64
-    requires { ⌜ m ≤ 6 ⌝ }
-    ensures { λ r. ⌜ r ≡ C m m ⌝ }
-{
-    match m {
-        0 => 1,
-        1 => 9,
-        2 => 118,
-        3 => 2152,
-        4 => 55840,
-        5 => 2027640,
-        _ => 99518160,
-    }
+    element_calls::size(m)
 }
 
 // q - 1, modulo 2^64.
@@ -204,5 +128,5 @@ pub fn product(
         minus_one(q),
     );
     lists::clear(&mut scratch[0..need]);
-    accepted(product_count(m))
+    accepted(element_calls::product_count(m))
 }

@@ -12,8 +12,8 @@
 // The program ends where the input does. It also ends, with no line, at a call that is cut off, and at one with more than 5,041
 // words in a list or the result, 4,097 letters or 60,500 words of scratch.
 
-use hecke::Answer;
-use hecke::Verdict;
+use element_calls::Answer;
+use element_calls::Verdict;
 use vector_io::Read;
 use vector_io::print_field;
 
@@ -57,8 +57,8 @@ fn print_verdict(verdict: Verdict) {
         }
         Verdict::Refused(why) => {
             io::write_all(1, b"E");
-            print_field(hecke::number_of(why) as u64);
-            print_field(hecke::place_of(why) as u64);
+            print_field(element_calls::number_of(why) as u64);
+            print_field(element_calls::place_of(why) as u64);
         }
     }
 }

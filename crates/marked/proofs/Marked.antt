@@ -11,7 +11,7 @@ use Rattle.algebra.specs.Element.{coefficient, element, plus, scale, sumOver, b
 use Rattle.algebra.specs.Product.{minusOne, letter, act, times}
 use Rattle.algebra.specs.Nested.{operations, both, free, onward, _⧺_, row, _⊞_, _⊠_, sumRow, part, level, nestedAct, nested}
 use Rattle.algebra.specs.Cost.{cLine, c, C}
-use Rattle.hecke.specs.Calls.{rankVerdict, sizeVerdict, needed, scratchVerdict, productCall}
+use Rattle.element_calls.specs.Calls.{rankVerdict, sizeVerdict, needed, scratchVerdict, productCall}
 use Rattle.sheet.specs.Format.{byte, number, width, known, command, decode}
 use Rattle.sheet.specs.Check.{rank, parameter, isEnd, inOrder, isRegister, operandsInRange, inRange, placedFrom, placed, firstRefusal, checkSheet}
 use Rattle.runner.specs.Registers.{register, overwrite, zeros}

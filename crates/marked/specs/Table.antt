@@ -19,7 +19,7 @@ use Rattle.algebra.specs.Element.{basis, unit}
 use Rattle.algebra.specs.Product.{minusOne, times}
 use Rattle.algebra.specs.Nested.{operations, nested}
 use Rattle.algebra.specs.Cost.{C}
-use Rattle.hecke.specs.Calls.{accepted, needed, Outcome, Buffers, productCall}
+use Rattle.element_calls.specs.Calls.{accepted, needed, Outcome, Buffers, productCall}
 use Rattle.sheet.specs.declared.Verdict.the-variants.{Accepted}
 use Rattle.runner.specs.Run.{given, runSheet}
 use Rattle.output.specs.Printed.{printed}

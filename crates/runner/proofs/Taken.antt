@@ -1,4 +1,4 @@
--- Calls of hecke that no check refuses: what is written, and the count. Rests on hecke's Demand3 and on Put.
+-- Calls of hecke that no check refuses: what is written, and the count. Rests on element_calls' Demand3 and on Put.
 use mathlib.Core.Path.{_≡_, sym, ap, _∙_}
 use mathlib.Core.List.{List}
 use Prim.Native.Nat.{ℕ, suc, _+_, _*_, _/_, _^_, _≤_, _<_}
@@ -11,12 +11,12 @@ use Rattle.algebra.specs.Numbers.{factorial}
 use Rattle.algebra.specs.Element.{plus, scale}
 use Rattle.algebra.specs.Product.{minusOne, act, times}
 use Rattle.algebra.specs.Cost.{C}
-use Rattle.hecke.specs.declared.Verdict.{Verdict}
-use Rattle.hecke.specs.declared.Verdict.the-variants.{Accepted, Refused}
-use Rattle.hecke.specs.declared.Answer.{Answer}
-use Rattle.hecke.specs.Calls.{_then_, rankVerdict, sizeVerdict, wordVerdict, needed, Buffers, write, sumCall, scaleCall, actWordCall, productCall}
-use Rattle.hecke.specs.Demand3.{Taken, Lawful}
-use Rattle.hecke.proofs.Demand3.{demand-3, product-lent}
+use Rattle.element_calls.specs.declared.Verdict.{Verdict}
+use Rattle.element_calls.specs.declared.Verdict.the-variants.{Accepted, Refused}
+use Rattle.element_calls.specs.declared.Answer.{Answer}
+use Rattle.element_calls.specs.Calls.{_then_, rankVerdict, sizeVerdict, wordVerdict, needed, Buffers, write, sumCall, scaleCall, actWordCall, productCall}
+use Rattle.element_calls.specs.Demand3.{Taken, Lawful}
+use Rattle.element_calls.proofs.Demand3.{demand-3, product-lent}
 use Rattle.runner.proofs.Put.{size-small, Part}
 
 write-taken : {A : Type 0} {a : Answer} {last : A} (v : Verdict) (old new : A) (n : ℕ) → Taken (write v old new n .answer)

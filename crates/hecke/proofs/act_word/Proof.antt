@@ -10,10 +10,11 @@ use Rattle.ring.specs.Modular.{words}
 use Rattle.perms.specs.Permutation.{Word}
 use Rattle.algebra.specs.Numbers.{factorial}
 use Rattle.algebra.specs.Product.{minusOne, act}
-use Rattle.hecke.specs.declared.Verdict.the-variants.{Accepted}
-use Rattle.hecke.specs.Calls.{_then_, rankVerdict, sizeVerdict, wordVerdict, actWordCall}
-use Rattle.hecke.proofs.Verdicts.{accepts-first, accepts-next, then-third, one-accepted, word-accepted}
-use Rattle.hecke.proofs.Calls.{write-refused, write-done, size-small}
+use Rattle.element_calls.specs.declared.Verdict.the-variants.{Accepted}
+use Rattle.element_calls.specs.Calls.{_then_, rankVerdict, sizeVerdict, wordVerdict, actWordCall}
+use Rattle.element_calls.proofs.Verdicts.{accepts-first, accepts-next, then-third, one-accepted, word-accepted}
+use Rattle.element_calls.proofs.Sizes.{size-small}
+use Rattle.element_calls.proofs.Calls.{write-refused, write-done}
 use Rattle.hecke.proofs.act_word.Statement.{statement}
 use Rattle.hecke.proofs.act_word.Tie as tie
 

@@ -3,7 +3,8 @@ use mathlib.Core.Path.{sym, _∙_}
 use native.Mathlib.Omega.{arith}
 use borrow.Author.Needs.{needs}
 use Rattle.hecke.proofs.WordSlices.{slice-element}
-use Rattle.hecke.proofs.Verdicts.{three-accepted}
+use Rattle.element_calls.proofs.Sizes.{product-count-is}
+use Rattle.element_calls.proofs.Verdicts.{three-accepted}
 use Rattle.hecke.proofs.Products.{Sized, need-fits, times-pre, product-refused, product-short, product-done}
 use Rattle.hecke.proofs.product.Statement.{statement}
 use Rattle.hecke.proofs.product.Tie as tie
@@ -45,12 +46,6 @@ times-requires c κs =
     let verdict = sym (told .before .before .three-elements .ensures) ∙ told .enum-told .given .1 in
     times-pre (record { verdict = verdict; size = sized .size .ensures }) _ (room .if1 .left)
 
-product-count-requires : tie.Need-product-count-requires
-product-count-requires c κs =
-    let made = c .before .before .before .before .before .before .before .before in
-    let told = made .before .before .before .before .before .before in
-    three-accepted _ _ _ _ (sym (told .before .before .three-elements .ensures) ∙ told .enum-told .given .1) .0
-
 returns-3 : tie.Need-returns-3
 returns-3 c =
     let made = c .before .before .before .before .before .before .before .before .before .before in
@@ -62,12 +57,12 @@ returns-3 c =
     let g = slice-element (good .2) (known .before .before .shared-slice-known2 .given) in
     product-done h g (u .q) (u .scratch .now) (made .times .last .1 .0) (record { verdict = verdict; size = sized .size .ensures }) (room .if1 .left)
     (s0 .fits .q .fits) (made .before .minus-one .ensures) (made .times .ensures) (made .times .kept .1 .0) (c .before .before .before .before .clear .ensures)
-    (c .before .product-count .ensures) (c .accepted .ensures)
+    (c .before .product-count .ensures ∙ product-count-is _ (good .0)) (c .accepted .ensures)
 
 pub product-spec : {M : Type 1} → statement M
 product-spec =
     tie.close
     (tie.spec (λ c κs. search needs) (λ c. search needs) (λ c κs. search needs) returns (λ c. search needs) add-need size-requires mul-need
     (λ c κs. search needs) returns-2 (λ c. search needs) (λ c. search needs) (λ c. search needs) (λ c κs. search needs) times-requires
-    (λ c. search needs) (λ c. search needs) (λ c. search needs) (λ c κs. search needs) product-count-requires (λ c κs. search needs)
+    (λ c. search needs) (λ c. search needs) (λ c. search needs) (λ c κs. search needs) (λ c κs. search needs) (λ c κs. search needs)
     (λ c. search needs) (λ c. search needs) returns-3)

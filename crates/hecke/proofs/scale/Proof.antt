@@ -1,9 +1,9 @@
 -- The two sizes are judged; then the multiple is written.
 use mathlib.Core.Path.{sym, _∙_}
 use borrow.Author.Needs.{needs}
-use Rattle.hecke.specs.Calls.{scaleCall}
-use Rattle.hecke.proofs.Calls.{write-refused, write-done}
-use Rattle.hecke.proofs.Verdicts.{two-accepted}
+use Rattle.element_calls.specs.Calls.{scaleCall}
+use Rattle.element_calls.proofs.Calls.{write-refused, write-done}
+use Rattle.element_calls.proofs.Verdicts.{two-accepted}
 use Rattle.hecke.proofs.scale.Statement.{statement}
 use Rattle.hecke.proofs.scale.Tie as tie
 

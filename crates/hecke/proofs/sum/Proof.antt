@@ -1,9 +1,9 @@
 -- The three sizes are judged; then the sum is written.
 use mathlib.Core.Path.{sym, _∙_}
 use borrow.Author.Needs.{needs}
-use Rattle.hecke.specs.Calls.{sumCall}
-use Rattle.hecke.proofs.Calls.{write-refused, write-done}
-use Rattle.hecke.proofs.Verdicts.{three-accepted}
+use Rattle.element_calls.specs.Calls.{sumCall}
+use Rattle.element_calls.proofs.Calls.{write-refused, write-done}
+use Rattle.element_calls.proofs.Verdicts.{three-accepted}
 use Rattle.hecke.proofs.sum.Statement.{statement}
 use Rattle.hecke.proofs.sum.Tie as tie
 

@@ -1,4 +1,4 @@
--- Demand 3 holds, with algebra's definitions as what the calls write. Rests on Verdicts, Calls, Products, algebra's Modular and Bounds, and perms'
+-- Demand 3 holds, with algebra's definitions as what the calls write. Rests on Verdicts, Calls, algebra's Modular and Bounds, and perms'
 -- Tally and Reduced.
 use mathlib.Core.Path.{_≡_, refl, sym, ap, _∙_}
 use mathlib.Core.List.{List, [], _∷_, _++_}
@@ -19,13 +19,12 @@ use Rattle.algebra.specs.Cost.{bound}
 use Rattle.algebra.specs.Laws.{defined}
 use Rattle.algebra.proofs.Modular.{word-hecke, word-closed}
 use Rattle.algebra.proofs.Bounds.{bounds}
-use Rattle.hecke.specs.declared.Verdict.{Verdict}
-use Rattle.hecke.specs.declared.Verdict.the-variants.{Accepted}
-use Rattle.hecke.specs.Calls.{_then_, rankVerdict, sizeVerdict, needed, scratchVerdict, wordVerdict, Buffers, sumCall, scaleCall, actWordCall, productCall}
-use Rattle.hecke.specs.Demand3.{E, Taken, Demand3}
-use Rattle.hecke.proofs.Verdicts.{rank-taken, size-taken, scratch-taken, word-taken}
-use Rattle.hecke.proofs.Calls.{write-verdict}
-use Rattle.hecke.proofs.Products.{product-counted}
+use Rattle.element_calls.specs.declared.Verdict.{Verdict}
+use Rattle.element_calls.specs.declared.Verdict.the-variants.{Accepted}
+use Rattle.element_calls.specs.Calls.{_then_, rankVerdict, sizeVerdict, needed, scratchVerdict, wordVerdict, Buffers, sumCall, scaleCall, actWordCall, productCall}
+use Rattle.element_calls.specs.Demand3.{E, Taken, Demand3}
+use Rattle.element_calls.proofs.Verdicts.{rank-taken, size-taken, scratch-taken, word-taken}
+use Rattle.element_calls.proofs.Calls.{write-verdict, product-counted}
 
 -- ---- what each call answers and leaves where it is taken: `xChecks` is the verdict of the call x
 

@@ -2,9 +2,9 @@
 use native.Mathlib.Omega.{arith}
 use borrow.Author.Needs.{needs}
 use Rattle.perms.proofs.Test.{less-yes, less-no}
-use Rattle.hecke.specs.Calls.{rankVerdict}
-use Rattle.hecke.proofs.checks.one_element.Statement.{statement}
-use Rattle.hecke.proofs.checks.one_element.Tie as tie
+use Rattle.element_calls.specs.Calls.{rankVerdict}
+use Rattle.element_calls.proofs.checks.one_element.Statement.{statement}
+use Rattle.element_calls.proofs.checks.one_element.Tie as tie
 
 returns : tie.Need-returns
 unfolding rankVerdict

@@ -1,6 +1,8 @@
 -- The element calls, whole: for all inputs, what a call answers and what its lent slices then hold (document 01, "Elements and their product" and
 -- "Where each thing is checked").
 --
+--   size m                        M for the ranks 0 to 6, and 0 above them
+--   productCount m                C(m, m) for the ranks 0 to 6, and 0 above them
 --   refusalNumber, refusalPlace   document 01's number and place of a refusal
 --   v then w                      the first refusal of two verdicts
 --   unless bad why                refused if the test holds
@@ -25,11 +27,18 @@ use Rattle.algebra.specs.Numbers.{factorial}
 use Rattle.algebra.specs.Element.{plus, scale}
 use Rattle.algebra.specs.Product.{minusOne, act, times}
 use Rattle.algebra.specs.Nested.{operations, nested}
-use Rattle.hecke.specs.declared.Refusal.{Refusal}
-use Rattle.hecke.specs.declared.Refusal.the-variants.{Rank, Size, Scratch, Word, Letter}
-use Rattle.hecke.specs.declared.Verdict.{Verdict}
-use Rattle.hecke.specs.declared.Verdict.the-variants.{Accepted, Refused}
-use Rattle.hecke.specs.declared.Answer.{Answer}
+use Rattle.algebra.specs.Cost.{C}
+use Rattle.element_calls.specs.declared.Refusal.{Refusal}
+use Rattle.element_calls.specs.declared.Refusal.the-variants.{Rank, Size, Scratch, Word, Letter}
+use Rattle.element_calls.specs.declared.Verdict.{Verdict}
+use Rattle.element_calls.specs.declared.Verdict.the-variants.{Accepted, Refused}
+use Rattle.element_calls.specs.declared.Answer.{Answer}
+
+unfoldable pub size : ℕ → ℕ
+size m = cond (less 6 m) 0 (factorial (suc m))
+
+unfoldable pub productCount : ℕ → ℕ
+productCount m = cond (less 6 m) 0 (C m m)
 
 abbrev pub refusalNumber : Refusal → ℕ
 refusalNumber Rank = 1

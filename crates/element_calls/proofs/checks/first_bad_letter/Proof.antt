@@ -9,9 +9,9 @@ use lib.ListN.{length, getD}
 use Rattle.perms.specs.Lists.{same, less}
 use Rattle.perms.proofs.Test.{same-yes, same-no}
 use Rattle.perms.proofs.First.{From, first-start, first-here, first-next, first-none}
-use Rattle.hecke.specs.Calls.{firstBadLetter}
-use Rattle.hecke.proofs.checks.first_bad_letter.Statement.{statement}
-use Rattle.hecke.proofs.checks.first_bad_letter.Tie as tie
+use Rattle.element_calls.specs.Calls.{firstBadLetter}
+use Rattle.element_calls.proofs.checks.first_bad_letter.Statement.{statement}
+use Rattle.element_calls.proofs.checks.first_bad_letter.Tie as tie
 
 abbrev Inv-loop : tie.InvT-loop
 Inv-loop word m n i₀ i = From (λ i. let letter = getD word i 0 in same letter 0 || less m letter) (length word) i

@@ -3,9 +3,9 @@ use native.Mathlib.Omega.{arith}
 use borrow.Author.Needs.{needs}
 use lib.ListN.{length}
 use Rattle.perms.proofs.Test.{less-yes, less-no}
-use Rattle.hecke.specs.Calls.{wordVerdict}
-use Rattle.hecke.proofs.checks.word.Statement.{statement}
-use Rattle.hecke.proofs.checks.word.Tie as tie
+use Rattle.element_calls.specs.Calls.{wordVerdict}
+use Rattle.element_calls.proofs.checks.word.Statement.{statement}
+use Rattle.element_calls.proofs.checks.word.Tie as tie
 
 returns : tie.Need-returns
 unfolding wordVerdict

@@ -1,10 +1,10 @@
 -- The rank and the size are judged before the word.
 use mathlib.Core.Path.{sym, _∙_}
 use borrow.Author.Needs.{needs}
-use Rattle.hecke.specs.Calls.{rankVerdict, sizeVerdict, wordVerdict}
-use Rattle.hecke.proofs.Verdicts.{then-third}
-use Rattle.hecke.proofs.checks.element_and_word.Statement.{statement}
-use Rattle.hecke.proofs.checks.element_and_word.Tie as tie
+use Rattle.element_calls.specs.Calls.{rankVerdict, sizeVerdict, wordVerdict}
+use Rattle.element_calls.proofs.Verdicts.{then-third}
+use Rattle.element_calls.proofs.checks.element_and_word.Statement.{statement}
+use Rattle.element_calls.proofs.checks.element_and_word.Tie as tie
 
 returns : tie.Need-returns
 returns c = let after = c .before .before .before in let u = after .before .before .args in

@@ -2,7 +2,7 @@
 
 ghost use mathlib.Core.Path.{_≡_};
 ghost use Prim.Native.Nat.{_≤_};
-ghost use Rattle.hecke.specs.Calls.{_then_, rankVerdict, sizeVerdict, firstBadLetter, wordVerdict};
+ghost use Rattle.element_calls.specs.Calls.{_then_, rankVerdict, sizeVerdict, firstBadLetter, wordVerdict};
 use crate::Refusal;
 use crate::Verdict;
 
@@ -26,7 +26,9 @@ fn one_element(m: usize, a: usize) -> Verdict
     sized(m, a)
 }
 
-pub(crate) fn two_elements(m: usize, a: usize, b: usize) -> Verdict
+// Checks 1 and 2 on a rank and slices of a and b words.
+// Example: of rank 1, slices of 2 and 3 words are refused, since 3 is no size of an element of rank 1.
+pub fn two_elements(m: usize, a: usize, b: usize) -> Verdict
     ensures { λ r. ⌜ r ≡ (rankVerdict m then sizeVerdict m a then sizeVerdict m b) ⌝ }
 {
     let checked = one_element(m, a);
@@ -36,7 +38,9 @@ pub(crate) fn two_elements(m: usize, a: usize, b: usize) -> Verdict
     sized(m, b)
 }
 
-pub(crate) fn three_elements(m: usize, a: usize, b: usize, c: usize) -> Verdict
+// Checks 1 and 2 on a rank and slices of a, b and c words.
+// Example: of rank 7 any slices are refused for the rank.
+pub fn three_elements(m: usize, a: usize, b: usize, c: usize) -> Verdict
     ensures { λ r. ⌜ r ≡ (rankVerdict m then sizeVerdict m a then sizeVerdict m b then sizeVerdict m c) ⌝ }
 {
     let checked = two_elements(m, a, b);
@@ -73,7 +77,9 @@ fn word(word: &[u8], m: usize) -> Verdict
     Verdict::Accepted
 }
 
-pub(crate) fn element_and_word(m: usize, a: usize, letters: &[u8]) -> Verdict
+// Checks 1, 2 and 4 on a rank, a slice of a words and a word.
+// Example: of rank 1 with 2 words, the word 1 2 is refused for its second letter.
+pub fn element_and_word(m: usize, a: usize, letters: &[u8]) -> Verdict
     ensures { λ r. ⌜ r ≡ (rankVerdict m then sizeVerdict m a then wordVerdict m (now (letters .entry))) ⌝ }
 {
     let checked = one_element(m, a);

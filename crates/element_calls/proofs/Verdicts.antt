@@ -11,11 +11,11 @@ use Rattle.perms.proofs.Test.{same-yes, same-no, less-no, same-true, same-false
 use Rattle.perms.proofs.First.{passed, first-past}
 use Rattle.perms.proofs.All.{all-getD, all-index}
 use Rattle.algebra.specs.Numbers.{factorial}
-use Rattle.hecke.specs.declared.Refusal.{Refusal}
-use Rattle.hecke.specs.declared.Refusal.the-variants as R
-use Rattle.hecke.specs.declared.Verdict.{Verdict}
-use Rattle.hecke.specs.declared.Verdict.the-variants.{Accepted, Refused}
-use Rattle.hecke.specs.Calls.{_then_, unless, rankVerdict, sizeVerdict, needed, scratchVerdict, firstBadLetter, wordVerdict}
+use Rattle.element_calls.specs.declared.Refusal.{Refusal}
+use Rattle.element_calls.specs.declared.Refusal.the-variants as R
+use Rattle.element_calls.specs.declared.Verdict.{Verdict}
+use Rattle.element_calls.specs.declared.Verdict.the-variants.{Accepted, Refused}
+use Rattle.element_calls.specs.Calls.{_then_, unless, rankVerdict, sizeVerdict, needed, scratchVerdict, firstBadLetter, wordVerdict}
 
 -- ---- verdicts
 

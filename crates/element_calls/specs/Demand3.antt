@@ -17,9 +17,9 @@ use Rattle.algebra.specs.Element.{Element}
 use Rattle.algebra.specs.Product.{minusOne}
 use Rattle.algebra.specs.Cost.{C}
 use Rattle.algebra.specs.Laws.{Calls, Closed, Hecke}
-use Rattle.hecke.specs.declared.Verdict.the-variants.{Accepted}
-use Rattle.hecke.specs.declared.Answer.{Answer}
-use Rattle.hecke.specs.Calls.{needed, sumCall, scaleCall, actWordCall, productCall}
+use Rattle.element_calls.specs.declared.Verdict.the-variants.{Accepted}
+use Rattle.element_calls.specs.declared.Answer.{Answer}
+use Rattle.element_calls.specs.Calls.{needed, sumCall, scaleCall, actWordCall, productCall}
 
 abbrev pub E : ℕ → List ℕ → Type 0
 E m h = Element (λ x. x < 2 ^ 64) m h

@@ -1,10 +1,10 @@
 -- The rank and two sizes are judged before the third.
 use mathlib.Core.Path.{sym, _∙_}
 use borrow.Author.Needs.{needs}
-use Rattle.hecke.specs.Calls.{rankVerdict, sizeVerdict}
-use Rattle.hecke.proofs.Verdicts.{then-fourth, two-accepted}
-use Rattle.hecke.proofs.checks.three_elements.Statement.{statement}
-use Rattle.hecke.proofs.checks.three_elements.Tie as tie
+use Rattle.element_calls.specs.Calls.{rankVerdict, sizeVerdict}
+use Rattle.element_calls.proofs.Verdicts.{then-fourth, two-accepted}
+use Rattle.element_calls.proofs.checks.three_elements.Statement.{statement}
+use Rattle.element_calls.proofs.checks.three_elements.Tie as tie
 
 returns : tie.Need-returns
 returns c = let after = c .before .before .before in let u = after .before .args in

@@ -1,0 +1,33 @@
+-- How a call ends: its checks refuse it, or it is done; and what a product counts. Rests on algebra's Counts.
+use mathlib.Core.Path.{_≡_, refl, sym, ap, _∙_}
+use mathlib.Core.List.{List}
+use Prim.Native.Nat.{ℕ, _^_, _<_}
+use native.Mathlib.Omega.{arith}
+use Rattle.ring.specs.Modular.{words}
+use Rattle.algebra.specs.Element.{Element}
+use Rattle.algebra.specs.Product.{minusOne}
+use Rattle.algebra.specs.Nested.{operations, nested}
+use Rattle.algebra.specs.Cost.{C}
+use Rattle.algebra.proofs.Counts.{counts}
+use Rattle.element_calls.specs.declared.Refusal.{Refusal}
+use Rattle.element_calls.specs.declared.Verdict.{Verdict}
+use Rattle.element_calls.specs.declared.Verdict.the-variants.{Accepted, Refused}
+use Rattle.element_calls.specs.declared.Answer.{Answer}
+use Rattle.element_calls.specs.Calls.{accepted, refused, write}
+
+module _ {A : Type 0} where
+  pub write-refused : {v : Verdict} {why : Refusal} {a : Answer} (old new : A) (n : ℕ) → v ≡ Refused why → a ≡ refused why
+      → write v old new n ≡ record { answer = a; lent = old }
+  write-refused old new n e f = rw e (ap (λ b. record { answer = b; lent = old }) (sym f))
+
+  pub write-done : {v : Verdict} {k : ℕ} {a : Answer} (old new last : A) (n : ℕ) → v ≡ Accepted → last ≡ new → k ≡ n → a ≡ accepted k
+      → write v old new n ≡ record { answer = a; lent = last }
+  write-done old new last n e d g f = rw e (λ i. record { answer = sym (f ∙ ap accepted g) i; lent = sym d i })
+
+  pub write-verdict : (v : Verdict) (old new : A) (n : ℕ) → write v old new n .answer .verdict ≡ v
+  write-verdict Accepted old new n = refl
+  write-verdict (Refused why) old new n = refl
+
+pub product-counted : {m : ℕ} {h g : List ℕ} → Element (λ n. n < 2 ^ 64) m h → Element (λ n. n < 2 ^ 64) m g → (q : ℕ)
+    → operations (nested ℕ words q (minusOne ℕ words q) m m h g .count) ≡ C m m
+product-counted {m} {h} {g} eh eg q = counts ℕ words q (minusOne ℕ words q) (λ n. n < 2 ^ 64) m .count m (omega arith) h g eh eg
