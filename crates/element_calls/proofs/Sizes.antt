@@ -7,11 +7,15 @@ use Rattle.perms.proofs.Test.{less-no, less-false}
 use Rattle.perms.proofs.First.{passed}
 use Rattle.algebra.specs.Numbers.{factorial}
 use Rattle.algebra.specs.Cost.{C}
-use Rattle.element_calls.specs.Calls.{size, productCount}
+use Rattle.element_calls.specs.Calls.{size, needed, scratchSize, productCount}
 
 pub size-is : (m : ℕ) → m ≤ 6 → size m ≡ factorial (suc m)
 unfolding size
 size-is m h = rw (less-no h) refl
+
+pub scratch-size-is : (m : ℕ) → m ≤ 6 → scratchSize m ≡ needed m
+unfolding scratchSize
+scratch-size-is m h = rw (less-no h) refl
 
 pub product-count-is : (m : ℕ) → m ≤ 6 → productCount m ≡ C m m
 unfolding productCount

@@ -70,6 +70,10 @@ pub size-taken : (m n : ℕ) → n ≡ factorial (suc m) → sizeVerdict m n ≡
 unfolding sizeVerdict
 size-taken m n e = rw (same-yes e) refl
 
+pub scratch-accepted : (m n : ℕ) → scratchVerdict m n ≡ Accepted → needed m ≤ n
+unfolding scratchVerdict
+scratch-accepted m n e = less-false n (needed m) (accepts-unless (less n (needed m)) R.Scratch e)
+
 pub scratch-taken : (m n : ℕ) → needed m ≤ n → scratchVerdict m n ≡ Accepted
 unfolding scratchVerdict
 scratch-taken m n h = rw (less-no h) refl
@@ -94,6 +98,16 @@ three-accepted m a b c e =
     let f = sym (then-fourth (rankVerdict m) (sizeVerdict m a) (sizeVerdict m b) last refl) ∙ e in
     let good = two-accepted m a b (accepts-first two last f) in
     (good .0, good .1, good .2, size-accepted m c (accepts-next two last f))
+
+-- and the scratch
+pub product-accepted : (m a b c n : ℕ)
+    → (rankVerdict m then sizeVerdict m a then sizeVerdict m b then sizeVerdict m c then scratchVerdict m n) ≡ Accepted
+    → (m ≤ 6) × (a ≡ factorial (suc m)) × (b ≡ factorial (suc m)) × (c ≡ factorial (suc m)) × (needed m ≤ n)
+product-accepted m a b c n e =
+    let three = rankVerdict m then sizeVerdict m a then sizeVerdict m b then sizeVerdict m c in let last = scratchVerdict m n in
+    let f = sym (then-fifth (rankVerdict m) (sizeVerdict m a) (sizeVerdict m b) (sizeVerdict m c) last refl) ∙ e in
+    let good = three-accepted m a b c (accepts-first three last f) in
+    (good .0, good .1, good .2, good .3, scratch-accepted m n (accepts-next three last f))
 
 -- ---- a word
 

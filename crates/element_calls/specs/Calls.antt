@@ -9,6 +9,7 @@
 --   rankVerdict m                 1: on the rank
 --   sizeVerdict m n               2: on an element's slice of n words
 --   needed m                      the scratch of a product: (m + 6) M words
+--   scratchSize m                 the same for the ranks 0 to 6, and 0 above them
 --   scratchVerdict m n            3: on a scratch slice of n words
 --   firstBadLetter m x            the index of the first letter that is 0 or above m, else the number of letters
 --   wordVerdict m x               4: on a word
@@ -72,6 +73,9 @@ sizeVerdict m n = unless (not (same n (factorial (suc m)))) Size
 
 unfoldable pub needed : ℕ → ℕ
 needed m = (m + 6) * factorial (suc m)
+
+unfoldable pub scratchSize : ℕ → ℕ
+scratchSize m = cond (less 6 m) 0 (needed m)
 
 unfoldable pub scratchVerdict : ℕ → ℕ → Verdict
 scratchVerdict m n = unless (less n (needed m)) Scratch

@@ -2,7 +2,7 @@
 
 ghost use mathlib.Core.Path.{_≡_};
 ghost use Prim.Native.Nat.{_≤_};
-ghost use Rattle.element_calls.specs.Calls.{_then_, rankVerdict, sizeVerdict, firstBadLetter, wordVerdict};
+ghost use Rattle.element_calls.specs.Calls.{_then_, rankVerdict, sizeVerdict, scratchVerdict, firstBadLetter, wordVerdict};
 use crate::Refusal;
 use crate::Verdict;
 
@@ -48,6 +48,29 @@ pub fn three_elements(m: usize, a: usize, b: usize, c: usize) -> Verdict
         return Verdict::Refused(why);
     }
     sized(m, c)
+}
+
+// Check 3 on a slice of n words.
+fn scratch(m: usize, n: usize) -> Verdict
+    requires { ⌜ m ≤ 6 ⌝ }
+    ensures { λ r. ⌜ r ≡ scratchVerdict m n ⌝ }
+{
+    if n < crate::scratch_size(m) {
+        return Verdict::Refused(Refusal::Scratch);
+    }
+    Verdict::Accepted
+}
+
+// Checks 1 to 3 on a rank, slices of a, b and c words, and scratch of n words.
+// Example: of rank 1, with slices of 2 words, 13 words of scratch are refused, since 14 are needed.
+pub fn three_elements_and_scratch(m: usize, a: usize, b: usize, c: usize, n: usize) -> Verdict
+    ensures { λ r. ⌜ r ≡ (rankVerdict m then sizeVerdict m a then sizeVerdict m b then sizeVerdict m c then scratchVerdict m n) ⌝ }
+{
+    let checked = three_elements(m, a, b, c);
+    if let Verdict::Refused(why) = checked {
+        return Verdict::Refused(why);
+    }
+    scratch(m, n)
 }
 
 // The index of the first letter that is 0 or above m, else the number of letters.

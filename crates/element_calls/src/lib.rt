@@ -3,7 +3,7 @@
 // The checks are in `checks`; specs/Calls says what a call answers and writes, and specs/Demand3 is the claim about it.
 
 ghost use mathlib.Core.Path.{_≡_};
-ghost use Rattle.element_calls.specs.Calls.{refusalNumber, refusalPlace, size, productCount};
+ghost use Rattle.element_calls.specs.Calls.{refusalNumber, refusalPlace, size, scratchSize, productCount};
 
 pub mod checks;
 
@@ -76,6 +76,17 @@ pub fn size(m: usize) -> usize
         6 => 5040,
         _ => 0,
     }
+}
+
+// (m + 6) M, the number of words of scratch that a product of rank m needs; 0 above rank 6.
+// Example: a product of rank 1 needs 14.
+pub fn scratch_size(m: usize) -> usize
+    ensures { λ r. ⌜ r ≡ scratchSize m ⌝ }
+{
+    if 6 < m {
+        return 0;
+    }
+    (m + 6) * size(m)
 }
 
 // C(m, m), the ring operations of a product of rank m; 0 above rank 6.

@@ -109,14 +109,17 @@ pub fn product(
     ensures { λ a. ⌜ productCall m q (now (left .entry)) (now (right .entry)) (now (result .entry)) (now (scratch .entry))
         ≡ record { answer = a; lent = record { result = now (result .exit); scratch = now (scratch .exit) } } ⌝ }
 {
-    let checked = checks::three_elements(m, left.len(), right.len(), result.len());
+    let checked = checks::three_elements_and_scratch(
+        m,
+        left.len(),
+        right.len(),
+        result.len(),
+        scratch.len(),
+    );
     if let Verdict::Refused(why) = checked {
         return refused(why);
     }
-    let need = (m + 6) * size(m);
-    if scratch.len() < need {
-        return refused(Refusal::Scratch);
-    }
+    let need = element_calls::scratch_size(m);
     multiply::times(
         result,
         &mut scratch[0..need],
