@@ -1,8 +1,9 @@
-// What the four element calls check and answer, without their work: refusals, answers, sizes and counts.
-//
-// The checks are in `checks`; specs/Calls says what a call answers and writes, and specs/Demand3 is the claim about it.
+// What the four element calls check and answer: refusals and answers, the checks, and the numbers that a call takes from its
+// rank and from q. What a call answers and writes is defined in specs/Calls; the work itself is in `hecke`.
 
 ghost use mathlib.Core.Path.{_≡_};
+ghost use Rattle.ring.specs.Modular.{words};
+ghost use Rattle.algebra.specs.Product.{minusOne};
 ghost use Rattle.element_calls.specs.Calls.{refusalNumber, refusalPlace, size, scratchSize, productCount};
 
 pub mod checks;
@@ -104,4 +105,12 @@ pub fn product_count(m: usize) -> u64
         6 => 99518160,
         _ => 0,
     }
+}
+
+// q - 1, modulo 2^64.
+// Example: for q = 0 it is 2^64 - 1.
+pub fn minus_one(q: u64) -> u64
+    ensures { λ r. ⌜ r ≡ minusOne _ words q ⌝ }
+{
+    ring::add(q, 0xffff_ffff_ffff_ffff)
 }

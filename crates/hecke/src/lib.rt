@@ -5,9 +5,7 @@
 
 ghost use mathlib.Core.Path.{_≡_};
 ghost use Prim.Native.Nat.{suc, _≤_};
-ghost use Rattle.ring.specs.Modular.{words};
 ghost use Rattle.algebra.specs.Numbers.{factorial};
-ghost use Rattle.algebra.specs.Product.{minusOne};
 ghost use Rattle.element_calls.specs.Calls.{accepted, refused, sumCall, scaleCall, actWordCall, productCall};
 use element_calls::Answer;
 use element_calls::Refusal;
@@ -42,13 +40,6 @@ fn size(m: usize) -> usize
     ensures { λ r. ⌜ r ≡ factorial (suc m) ⌝ }
 {
     element_calls::size(m)
-}
-
-// q - 1, modulo 2^64.
-fn minus_one(q: u64) -> u64
-    ensures { λ r. ⌜ r ≡ minusOne _ words q ⌝ }
-{
-    ring::add(q, 0xffff_ffff_ffff_ffff)
 }
 
 // The sum of two elements of rank m, coefficient by coefficient: M ring operations.
@@ -90,7 +81,7 @@ pub fn act_word(m: usize, q: u64, word: &[u8], element: &mut [u64]) -> Answer
     if let Verdict::Refused(why) = checked {
         return refused(why);
     }
-    action::act_letters(element, word, m, q, minus_one(q));
+    action::act_letters(element, word, m, q, element_calls::minus_one(q));
     accepted(word.len() as u64 * (3 * size(m) as u64 / 2))
 }
 
@@ -128,7 +119,7 @@ pub fn product(
         m,
         m,
         q,
-        minus_one(q),
+        element_calls::minus_one(q),
     );
     lists::clear(&mut scratch[0..need]);
     accepted(element_calls::product_count(m))

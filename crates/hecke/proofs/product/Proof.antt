@@ -21,7 +21,7 @@ part-times-end c =
     let u = last .before .before .before .before .before .args in
     let verdict = sym (last .three-elements-and-scratch .ensures) ∙ told .enum-told .given .1 in
     let p : Checked (u .m) (sized .scratch-size .result) (u .left .now) (u .right .now) (u .result .now) (u .scratch .now) =
-        record { verdict = verdict; need = sized .scratch-size .ensures } in
+    record { verdict = verdict; need = sized .scratch-size .ensures } in
     omega (arith, room p)
 
 times-requires : tie.Need-times-requires
@@ -35,7 +35,7 @@ part-clear-end c =
     let u = last .before .before .before .before .before .args in
     let verdict = sym (last .three-elements-and-scratch .ensures) ∙ told .enum-told .given .1 in
     let p : Checked (u .m) (sized .scratch-size .result) (u .left .now) (u .right .now) (u .result .now) (u .scratch .now) =
-        record { verdict = verdict; need = sized .scratch-size .ensures } in
+    record { verdict = verdict; need = sized .scratch-size .ensures } in
     omega (arith, room p)
 
 returns-2 : tie.Need-returns-2
@@ -45,7 +45,7 @@ returns-2 c =
     let known = last .before in let s0 = known .before .before .before .before in let u = s0 .args in
     let verdict = sym (last .three-elements-and-scratch .ensures) ∙ told .enum-told .given .1 in
     let p : Checked (u .m) (sized .scratch-size .result) (u .left .now) (u .right .now) (u .result .now) (u .scratch .now) =
-        record { verdict = verdict; need = sized .scratch-size .ensures } in
+    record { verdict = verdict; need = sized .scratch-size .ensures } in
     let h = slice-element (sizes p .1) (known .before .before .before .shared-slice-known .given) in
     let g = slice-element (sizes p .2) (known .before .before .shared-slice-known2 .given) in
     product-done h g (u .q) (u .scratch .now) (made .times .last .1 .0) p

@@ -2,8 +2,8 @@
 use borrow.Author.Needs.{needs}
 use Rattle.ring.specs.Modular.{modular, words}
 use Rattle.algebra.specs.Product.{minusOne}
-use Rattle.hecke.proofs.minus_one.Statement.{statement}
-use Rattle.hecke.proofs.minus_one.Tie as tie
+use Rattle.element_calls.proofs.minus_one.Statement.{statement}
+use Rattle.element_calls.proofs.minus_one.Tie as tie
 
 returns : tie.Need-returns
 unfolding minusOne words modular
