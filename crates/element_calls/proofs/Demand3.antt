@@ -1,11 +1,11 @@
 -- Demand 3 holds, with algebra's definitions as what the calls write. Rests on Verdicts, Calls, algebra's Modular and Bounds, and perms'
 -- Tally and Reduced.
 use mathlib.Core.Path.{_≡_, refl, sym, ap, _∙_}
-use mathlib.Core.List.{List, [], _∷_, _++_}
+use mathlib.Core.List.{List, [], _∷_}
 use Prim.Native.Nat.{ℕ, suc, _*_, _/_, _≤_}
 use native.Mathlib.Nat.{mul-comm}
 use native.Mathlib.Omega.{arith}
-use lib.ListN.{length, drop, replicate}
+use lib.ListN.{length}
 use Rattle.ring.specs.Modular.{words}
 use Rattle.perms.specs.Lists.{less}
 use Rattle.perms.specs.Permutation.{Perm, below, len, Word, Shortest}
@@ -21,7 +21,7 @@ use Rattle.algebra.proofs.Modular.{word-hecke, word-closed}
 use Rattle.algebra.proofs.Bounds.{bounds}
 use Rattle.element_calls.specs.declared.Verdict.{Verdict}
 use Rattle.element_calls.specs.declared.Verdict.the-variants.{Accepted}
-use Rattle.element_calls.specs.Calls.{_then_, rankVerdict, sizeVerdict, needed, scratchVerdict, wordVerdict, Buffers, sumCall, scaleCall, actWordCall, productCall}
+use Rattle.element_calls.specs.Calls.{_then_, rankVerdict, sizeVerdict, scratchVerdict, wordVerdict, sumCall, scaleCall, actWordCall, productCall}
 use Rattle.element_calls.specs.Demand3.{E, Taken, Demand3}
 use Rattle.element_calls.proofs.Verdicts.{rank-taken, size-taken, scratch-taken, word-taken}
 use Rattle.element_calls.proofs.Calls.{write-verdict, product-counted}
@@ -34,7 +34,7 @@ module _ (m : ℕ) (h g result : List ℕ) where
 
   sum-verdict : sumCall m h g result .answer .verdict ≡ sumChecks
   unfolding sumCall
-  sum-verdict = write-verdict sumChecks result (plus ℕ words h g) (factorial (suc m))
+  sum-verdict = write-verdict sumChecks _ _ _
 
   sum-lent : Taken (sumCall m h g result .answer) → sumCall m h g result .lent ≡ plus ℕ words h g
   unfolding sumCall
@@ -46,7 +46,7 @@ module _ (m c : ℕ) (h result : List ℕ) where
 
   scale-verdict : scaleCall m c h result .answer .verdict ≡ scaleChecks
   unfolding scaleCall
-  scale-verdict = write-verdict scaleChecks result (scale ℕ words c h) (factorial (suc m))
+  scale-verdict = write-verdict scaleChecks _ _ _
 
   scale-lent : Taken (scaleCall m c h result .answer) → scaleCall m c h result .lent ≡ scale ℕ words c h
   unfolding scaleCall
@@ -58,7 +58,7 @@ module _ (m q : ℕ) (x h : List ℕ) where
 
   act-verdict : actWordCall m q x h .answer .verdict ≡ actChecks
   unfolding actWordCall
-  act-verdict = write-verdict actChecks h (act ℕ words q (minusOne ℕ words q) m x h) (length x * (3 * factorial (suc m) / 2))
+  act-verdict = write-verdict actChecks _ _ _
 
   act-lent : Taken (actWordCall m q x h .answer) → actWordCall m q x h .lent ≡ act ℕ words q (minusOne ℕ words q) m x h
   unfolding actWordCall
@@ -75,10 +75,7 @@ module _ (m q : ℕ) (h g result scratch : List ℕ) where
 
   product-verdict : productCall m q h g result scratch .answer .verdict ≡ productChecks
   unfolding productCall
-  product-verdict = let r = minusOne ℕ words q in
-      write-verdict {A = Buffers} productChecks (record { result = result; scratch = scratch })
-      (record { result = times ℕ words q r m m h g; scratch = replicate (needed m) 0 ++ drop (needed m) scratch })
-      (operations (nested ℕ words q r m m h g .count))
+  product-verdict = write-verdict productChecks _ _ _
 
   pub product-lent : Taken (productCall m q h g result scratch .answer)
       → productCall m q h g result scratch .lent .result ≡ times ℕ words q (minusOne ℕ words q) m m h g

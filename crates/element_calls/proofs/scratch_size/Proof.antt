@@ -24,7 +24,7 @@ unfolding scratchSize
 returns c = rw (less-yes {x = 6} {a = c .before .args .m} (omega arith)) refl
 
 mul-result : tie.Need-mul-result
-mul-result c = record { fits = fits (c .before .before .args .m) (c .size .result) (omega arith) (c .size .ensures) }
+mul-result c = omega (arith, fits (c .before .before .args .m) (c .size .result) (omega arith) (c .size .ensures))
 
 returns-2 : tie.Need-returns-2
 returns-2 c = needed-is (c .before .before .args .m) (c .size .result) (omega arith) (c .size .ensures)
