@@ -5,8 +5,8 @@ use Prim.Native.Nat.{ℕ}
 use Rattle.perms.specs.declared.Verdict.{Verdict}
 use Rattle.perms.specs.declared.Counted.{Counted}
 use Rattle.perms.specs.Calls as P
-use Rattle.hecke.specs.declared.Answer.{Answer}
-use Rattle.hecke.specs.Calls as H
+use Rattle.element_calls.specs.declared.Answer.{Answer}
+use Rattle.element_calls.specs.Calls as H
 use Rattle.hecke_c.specs.Report.{Told, Returned, returned}
 use Rattle.hecke_c.specs.Towers as T
 use Rattle.hecke_c.specs.Elements as E

@@ -5,9 +5,9 @@
 --   sum, scale, actWord, product   the calls hecke_sum, hecke_scale, hecke_act_word and hecke_product
 use mathlib.Core.List.{List}
 use Prim.Native.Nat.{ℕ}
-use Rattle.hecke.specs.declared.Verdict.{Verdict}
-use Rattle.hecke.specs.declared.Verdict.the-variants.{Accepted, Refused}
-use Rattle.hecke.specs.Calls.{Outcome, Buffers, refusalNumber, refusalPlace, sumCall, scaleCall, actWordCall, productCall}
+use Rattle.element_calls.specs.declared.Verdict.{Verdict}
+use Rattle.element_calls.specs.declared.Verdict.the-variants.{Accepted, Refused}
+use Rattle.element_calls.specs.Calls.{Outcome, Buffers, refusalNumber, refusalPlace, sumCall, scaleCall, actWordCall, productCall}
 use Rattle.hecke_c.specs.Report.{Told, told, Returned, returned}
 
 unfoldable pub verdictTold : Verdict → ℕ → List ℕ → Told

@@ -77,17 +77,17 @@ pub(crate) fn generators(generators: perms::Generators, report: &mut [u64]) -> u
     }
 }
 
-pub(crate) fn element_verdict(verdict: hecke::Verdict, count: u64, report: &mut [u64]) -> u8
+pub(crate) fn element_verdict(verdict: element_calls::Verdict, count: u64, report: &mut [u64]) -> u8
     ensures { λ n. ⌜ Elements.verdictTold verdict count (now (report .entry)) ≡ record { number = n; report = now (report .exit) } ⌝ }
 {
     match verdict {
-        hecke::Verdict::Accepted => {
+        element_calls::Verdict::Accepted => {
             tell(report, 0, count);
             0
         }
-        hecke::Verdict::Refused(why) => {
-            tell(report, hecke::place_of(why) as u64, count);
-            hecke::number_of(why)
+        element_calls::Verdict::Refused(why) => {
+            tell(report, element_calls::place_of(why) as u64, count);
+            element_calls::number_of(why)
         }
     }
 }
