@@ -1,0 +1,142 @@
+//! The cases: the library beside the other contenders, on random inputs and on sheets.
+
+use crate::clock::{agree, race, Times, INPUTS};
+use crate::nested::FACTORIAL;
+use crate::{lists, nested, sheet, towers};
+use std::path::Path;
+use std::process::Command;
+
+/// One line of the table; the library's times come first, then those of (a), (b) and (c).
+pub struct Row {
+    pub call: &'static str,
+    pub size: String,
+    pub times: Vec<Times>,
+}
+
+type Product = fn(usize, u64, &[u64], &[u64], &mut [u64], &mut [u64]);
+type Action = fn(usize, u64, &[u8], &mut [u64]);
+type Conversion = fn(&[u8], &mut [u8]);
+
+/// Random words, the same every time (xorshift).
+struct Random(u64);
+
+impl Random {
+    fn word(&mut self) -> u64 {
+        self.0 ^= self.0 << 13;
+        self.0 ^= self.0 >> 7;
+        self.0 ^= self.0 << 17;
+        self.0
+    }
+
+    fn below(&mut self, n: usize) -> usize {
+        (self.word() % n as u64) as usize
+    }
+
+    fn element(&mut self, m: usize) -> Vec<u64> {
+        (0..FACTORIAL[m + 1]).map(|_| self.word()).collect()
+    }
+
+    fn tower(&mut self, points: usize) -> Vec<u8> {
+        (1..points).map(|j| self.below(j + 1) as u8).collect()
+    }
+}
+
+/// Inputs made from the same random words in each case.
+fn inputs<T>(make: impl Fn(&mut Random) -> T) -> [T; INPUTS] {
+    let mut random = Random(0x9e37_79b9_7f4a_7c15);
+    [(); INPUTS].map(|_| make(&mut random))
+}
+
+impl Row {
+    /// Compares the contenders on the first inputs, and times them if they are to be timed.
+    fn new<O: Clone + PartialEq, F: FnMut(usize, &mut O), const N: usize>(
+        timed: bool,
+        (call, size): (&'static str, String),
+        mut contenders: [F; N],
+        inputs: usize,
+        blank: O,
+    ) -> Row {
+        agree(&mut contenders, inputs, &blank, &format!("{call}, {size}"));
+        let times = if timed { race(&mut contenders, &blank).to_vec() } else { Vec::new() };
+        Row { call, size, times }
+    }
+}
+
+fn product(timed: bool, m: usize) -> Row {
+    let library: Product = |m, q, left, right, result, scratch| {
+        hecke::product(m, q, left, right, result, scratch).unwrap();
+    };
+    let inputs = &inputs(|random| (random.word(), random.element(m), random.element(m)));
+    let contenders = [library, nested::product, lists::product, lists::product_kept].map(|product| {
+        move |i: usize, (result, scratch): &mut (Vec<u64>, Vec<u64>)| {
+            let (q, left, right) = &inputs[i];
+            product(m, *q, left, right, result, scratch);
+        }
+    });
+    let size = FACTORIAL[m + 1];
+    Row::new(timed, ("product", format!("rank {m}")), contenders, INPUTS, (vec![1; size], vec![1; (m + 6) * size]))
+}
+
+fn word(timed: bool, m: usize) -> Row {
+    let library: Action = |m, q, word, element| {
+        hecke::act_word(m, q, word, element).unwrap();
+    };
+    let letters = |random: &mut Random| (0..100).map(|_| random.below(m) as u8 + 1).collect::<Vec<u8>>();
+    let inputs = &inputs(|random| (random.word(), letters(random), random.element(m)));
+    let contenders = [library, nested::act_word, lists::act_word].map(|act| {
+        move |i: usize, element: &mut Vec<u64>| {
+            let (q, word, start) = &inputs[i];
+            element.copy_from_slice(start);
+            act(m, *q, word, element);
+        }
+    });
+    Row::new(timed, ("word of 100 letters", format!("rank {m}")), contenders, INPUTS, vec![1; FACTORIAL[m + 1]])
+}
+
+fn conversion(timed: bool, call: &'static str, points: usize, given: [Vec<u8>; INPUTS], by: [Conversion; 2]) -> Row {
+    let blank = vec![255; 2 * points - 1 - given[0].len()];
+    let given = &given;
+    let contenders = by.map(|convert| move |i: usize, result: &mut Vec<u8>| convert(&given[i], result));
+    Row::new(timed, (call, format!("{points} points")), contenders, INPUTS, blank)
+}
+
+fn tower_of_images(timed: bool, points: usize) -> Row {
+    let given = inputs(|random| plain::perm::of_tower(&random.tower(points)));
+    let library = |images: &[u8], tower: &mut [u8]| hecke::tower_of_images(images, tower).unwrap();
+    let other = |images: &[u8], tower: &mut [u8]| towers::tower_of_images(images, tower).unwrap();
+    conversion(timed, "image list to tower", points, given, [library, other])
+}
+
+fn images_of_tower(timed: bool, points: usize) -> Row {
+    let given = inputs(|random| random.tower(points));
+    let library = |tower: &[u8], images: &mut [u8]| hecke::images_of_tower(tower, images).unwrap();
+    let other = |tower: &[u8], images: &mut [u8]| towers::images_of_tower(tower, images).unwrap();
+    conversion(timed, "tower to image list", points, given, [library, other])
+}
+
+/// A sheet through three programs, each a process of its own.
+fn whole_sheet(timed: bool, name: &str) -> Row {
+    let top = Path::new(env!("CARGO_MANIFEST_DIR")).join("..");
+    let sheet = &std::fs::read(top.join("examples").join(name)).expect("the sheet is there");
+    let own = std::env::current_exe().unwrap();
+    let programs = [(top.join("target/bin/run_sheet"), None), (own.clone(), Some("nested")), (own, Some("lists"))];
+    let contenders = programs.map(|(path, method)| {
+        move |_, output: &mut Vec<u8>| {
+            let words = method.map(|method| ["--sheet", method]);
+            sheet::output_of(Command::new(&path).args(words.iter().flatten()), sheet, output);
+        }
+    });
+    Row::new(timed, ("whole sheet", name.to_string()), contenders, 1, Vec::new())
+}
+
+/// All cases, timed or only compared.
+pub fn rows(timed: bool) -> Vec<Row> {
+    let ranks = 3..=6;
+    let points = [4, 8, 16, 32, 64];
+    let mut rows: Vec<Row> = ranks.clone().map(|m| product(timed, m)).collect();
+    rows.extend(ranks.map(|m| word(timed, m)));
+    rows.extend(points.map(|n| tower_of_images(timed, n)));
+    rows.extend(points.map(|n| images_of_tower(timed, n)));
+    rows.extend(["square.sheet", "products.sheet"].map(|name| whole_sheet(timed, name)));
+    rows
+}

@@ -1,0 +1,59 @@
+//! Contenders on the same inputs: whether they agree, and their times in turn.
+
+use std::hint::black_box;
+use std::time::Instant;
+
+/// The number of inputs of each case.
+pub const INPUTS: usize = 8;
+
+/// Nanoseconds of one call, the least and the median over the rounds.
+#[derive(Clone, Copy)]
+pub struct Times {
+    pub least: f64,
+    pub median: f64,
+}
+
+/// Panics unless all contenders make the same of each of the first inputs, each time in a copy of the blank output.
+pub fn agree<O: Clone + PartialEq, F: FnMut(usize, &mut O), const N: usize>(
+    contenders: &mut [F; N],
+    inputs: usize,
+    blank: &O,
+    name: &str,
+) {
+    for i in 0..inputs {
+        let outputs = contenders.each_mut().map(|run| {
+            let mut output = blank.clone();
+            run(i, &mut output);
+            output
+        });
+        assert!(outputs.iter().all(|output| *output == outputs[0]), "{name}: the contenders differ on input {i}");
+    }
+}
+
+/// The nanoseconds of one call, over a batch of calls on the inputs in turn.
+fn batch<O>(run: &mut impl FnMut(usize, &mut O), first: usize, calls: usize, output: &mut O) -> f64 {
+    let start = Instant::now();
+    for i in first..first + calls {
+        run(black_box(i % INPUTS), black_box(output));
+    }
+    start.elapsed().as_nanos() as f64 / calls as f64
+}
+
+/// Times the contenders in turn, round by round: batches of 0.2 ms or more, for 3 seconds and at least 15 rounds.
+pub fn race<O: Clone, F: FnMut(usize, &mut O), const N: usize>(contenders: &mut [F; N], blank: &O) -> [Times; N] {
+    let mut output = blank.clone();
+    let once = contenders.each_mut().map(|run| batch(run, 0, 1, &mut output));
+    let calls = (2e5 / once[0]).ceil() as usize;
+    let round = once.iter().sum::<f64>() * calls as f64;
+    let rounds = ((3e9 / round) as usize).max(15);
+    let mut times = [const { Vec::new() }; N];
+    for k in 0..rounds {
+        for (times, run) in times.iter_mut().zip(contenders.iter_mut()) {
+            times.push(batch(run, k * calls, calls, &mut output));
+        }
+    }
+    times.map(|mut times| {
+        times.sort_by(f64::total_cmp);
+        Times { least: times[0], median: times[times.len() / 2] }
+    })
+}

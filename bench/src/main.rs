@@ -1,0 +1,45 @@
+//! Times of the library's calls beside plain Rust: `bench [--write | --check]`.
+
+mod cases;
+mod clock;
+mod lists;
+mod nested;
+mod page;
+mod sheet;
+mod towers;
+
+use std::io::{self, Read, Write};
+use std::path::Path;
+
+/// Runs the sheet on standard input by the named method.
+fn run_sheet(method: &str) -> io::Result<()> {
+    let mut sheet = Vec::new();
+    io::stdin().take(4097).read_to_end(&mut sheet)?;
+    let text = if method == "nested" { sheet::printed(&sheet) } else { plain::sheet::printed(&sheet) };
+    io::stdout().write_all(&text)
+}
+
+fn main() -> io::Result<()> {
+    let words: Vec<String> = std::env::args().skip(1).collect();
+    match words.iter().map(String::as_str).collect::<Vec<_>>()[..] {
+        ["--sheet", method] => run_sheet(method)?,
+        ["--check"] => {
+            let rows = cases::rows(false);
+            println!("{} cases: all contenders agree", rows.len());
+        }
+        [] => {
+            let rows = cases::rows(true);
+            println!("{}\n{}", page::table(&rows), page::aims(&rows));
+        }
+        ["--write"] => {
+            let page = page::page(&cases::rows(true));
+            print!("{page}");
+            std::fs::write(Path::new(env!("CARGO_MANIFEST_DIR")).join("../docs/BENCHMARKS.md"), page)?;
+        }
+        _ => {
+            eprintln!("usage: bench [--write | --check]");
+            std::process::exit(2);
+        }
+    }
+    Ok(())
+}

@@ -1,0 +1,109 @@
+//! The library's own method in plain Rust: Proposition 3.2 block by block, and the product's recursion over the right factor.
+
+/// n! for n up to 7; an element of rank m has the size of index m + 1, and its blocks that of index m.
+pub const FACTORIAL: [usize; 8] = [1, 1, 2, 6, 24, 120, 720, 5040];
+
+/// q and q - 1.
+#[derive(Clone, Copy)]
+struct Algebra {
+    q: u64,
+    r: u64,
+}
+
+fn scale(result: &mut [u64], c: u64, element: &[u64]) {
+    for (z, x) in result.iter_mut().zip(element) {
+        *z = c.wrapping_mul(*x);
+    }
+}
+
+fn add(sum: &mut [u64], element: &[u64]) {
+    for (z, x) in sum.iter_mut().zip(element) {
+        *z = z.wrapping_add(*x);
+    }
+}
+
+impl Algebra {
+    fn new(q: u64) -> Algebra {
+        Algebra { q, r: q.wrapping_sub(1) }
+    }
+
+    /// x T_j in the place of x, of rank m.
+    fn letter(self, x: &mut [u64], m: usize, j: usize) {
+        let block = FACTORIAL[m];
+        let (below, rest) = x.split_at_mut((m - j) * block);
+        let (first, rest) = rest.split_at_mut(block);
+        let (second, above) = rest.split_at_mut(block);
+        for (s, t) in first.iter_mut().zip(second) {
+            (*s, *t) = (self.q.wrapping_mul(*t), s.wrapping_add(self.r.wrapping_mul(*t)));
+        }
+        below.chunks_exact_mut(block).for_each(|x| self.letter(x, m - 1, j));
+        above.chunks_exact_mut(block).for_each(|x| self.letter(x, m - 1, j - 1));
+    }
+
+    /// x T_a(j,l) in the place of x, of rank m, for l of at least 1.
+    fn act(self, x: &mut [u64], work: &mut [u64], m: usize, j: usize, l: usize) {
+        if l == 1 {
+            return self.letter(x, m, j);
+        }
+        let block = FACTORIAL[m];
+        let (below, rest) = x.split_at_mut((m - j) * block);
+        let (middle, above) = rest.split_at_mut((l + 1) * block);
+        below.chunks_exact_mut(block).for_each(|x| self.act(x, work, m - 1, j, l));
+        above.chunks_exact_mut(block).for_each(|x| self.act(x, work, m - 1, j - 1, l));
+        self.turn(middle, work, m - 1, j, l);
+    }
+
+    /// The action on the l + 1 blocks of x, of rank m, that depend on one another. Each part, once made, is multiplied on.
+    fn turn(self, x: &mut [u64], work: &mut [u64], m: usize, j: usize, l: usize) {
+        let block = FACTORIAL[m + 1];
+        let (first, parts) = x.split_at_mut(block);
+        let (sum, work) = work.split_at_mut(block);
+        for (i, part) in parts.chunks_exact_mut(block).enumerate() {
+            if i == 0 {
+                sum.copy_from_slice(part);
+            } else {
+                self.act(part, work, m, j - 1, i);
+                add(sum, part);
+            }
+            if i + 1 < l {
+                self.act(part, work, m, j - 1 - i, l - 1 - i);
+            }
+        }
+        for (s, x) in sum.iter_mut().zip(first) {
+            *s = x.wrapping_add(self.r.wrapping_mul(*s));
+        }
+        for i in 0..l * block {
+            x[i] = self.q.wrapping_mul(x[i + block]);
+        }
+        x[l * block..].copy_from_slice(sum);
+    }
+
+    /// h g in the place of result, for h of rank m and g of rank l.
+    fn times(self, result: &mut [u64], scratch: &mut [u64], h: &[u64], g: &[u64], m: usize, l: usize) {
+        if l == 0 {
+            return scale(result, g[0], h);
+        }
+        let (first, others) = g.split_at(FACTORIAL[l]);
+        self.times(result, scratch, h, first, m, l - 1);
+        let (summand, scratch) = scratch.split_at_mut(h.len());
+        for (k, part) in (1..).zip(others.chunks_exact(FACTORIAL[l])) {
+            self.times(summand, scratch, h, part, m, l - 1);
+            self.act(summand, scratch, m, l, k);
+            add(result, summand);
+        }
+    }
+}
+
+/// The word's generators T_i act on the element of rank m, left to right.
+pub fn act_word(m: usize, q: u64, word: &[u8], element: &mut [u64]) {
+    for &i in word {
+        Algebra::new(q).letter(element, m, i as usize);
+    }
+}
+
+/// The product of two elements of rank m. The first (m + 6) M words of scratch are zero afterwards.
+pub fn product(m: usize, q: u64, left: &[u64], right: &[u64], result: &mut [u64], scratch: &mut [u64]) {
+    let scratch = &mut scratch[..(m + 6) * FACTORIAL[m + 1]];
+    Algebra::new(q).times(result, scratch, left, right, m, m);
+    scratch.fill(0);
+}

@@ -1,0 +1,108 @@
+//! The table of times, and the page that it stands on.
+
+use crate::cases::Row;
+use crate::clock::Times;
+use std::fmt::Write;
+use std::process::Command;
+
+const HEAD: &str = "\
+# Benchmarks
+
+The library's calls beside plain Rust, all in one run on one machine. `cargo run --release --offline -p bench -- --write` makes
+this page; without `--write` it prints the table alone, and with `--check` it compares all results and times nothing.
+";
+
+const TERMS: &str = "
+## What is compared
+
+- **library**: the call through the wrapper `rust/hecke`, with all its checks. A sheet goes through the program `run_sheet`.
+- **(a)**: the same nested method in plain Rust, `bench/src/nested.rs`, with the machine's own wrapping multiplication. For
+  towers, plain Rust with the same checks, where larger images are counted in a mask of those seen, `bench/src/towers.rs`. For
+  sheets, a runner by the nested method, `bench/src/sheet.rs`.
+- **(b)**: formula 4.4 on plain lists, `bench/src/lists.rs`: each T_v acts through its whole word, as source document 000 counts.
+  The places of w and ws, and the words, are in tables made before the clock starts; `rust/plain`, written to be read, makes
+  words and lists anew for each v and takes about twice as long. For sheets (b) is `rust/plain` as it is, its tables timed.
+- **(c)**: formula 4.4 with h T_v kept for each beginning of a word, so that each T_v costs one letter: (7/2) M² operations, and
+  m (m + 1) / 2 + 1 lists of M words beside the scratch.
+
+All results, and the scratch after a product, are compared before the clock starts. The contenders take turns, round by round,
+on the same of eight random inputs; a time is that of one call, the least over all rounds with the median in brackets. Result
+slices hold what the call before left: nothing is cleared for a call. Every product clears the first (m + 6) M words of its
+scratch at its end, as document 01 asks, and this is timed. A word's element is copied from the input first, which is timed too.
+A sheet is one process: its start and both pipes are timed. Ratios are those of the least times.
+";
+
+fn time(times: Option<&Times>) -> String {
+    let Some(times) = times else { return "–".to_string() };
+    let (unit, name) = match times.least {
+        least if least < 1e3 => (1.0, "ns"),
+        least if least < 1e6 => (1e3, "µs"),
+        _ => (1e6, "ms"),
+    };
+    format!("{:.1} ({:.1}) {name}", times.least / unit, times.median / unit)
+}
+
+impl Row {
+    /// The ratio of the least times of two contenders, where both are there.
+    fn ratio(&self, upper: usize, lower: usize) -> Option<f64> {
+        Some(self.times.get(upper)?.least / self.times.get(lower)?.least)
+    }
+
+    fn line(&self) -> String {
+        let times: Vec<String> = (0..4).map(|k| time(self.times.get(k))).collect();
+        let ratio = |upper, lower| self.ratio(upper, lower).map_or("–".to_string(), |ratio| format!("{ratio:.2}"));
+        let ratios = [ratio(0, 1), ratio(2, 0), ratio(3, 0)].join(" | ");
+        format!("| {} | {} | {} | {ratios} |", self.call, self.size, times.join(" | "))
+    }
+}
+
+/// The table of times and ratios.
+pub fn table(rows: &[Row]) -> String {
+    let heads = "| call | size | library | (a) | (b) | (c) | library / (a) | (b) / library | (c) / library |";
+    let rule = "|---|---|---|---|---|---|---|---|---|";
+    let lines: Vec<String> = rows.iter().map(Row::line).collect();
+    format!("{heads}\n{rule}\n{}\n", lines.join("\n"))
+}
+
+/// The aims, with what was measured and whether it holds.
+pub fn aims(rows: &[Row]) -> String {
+    let largest = |call: &str| {
+        let ratios = rows.iter().filter(|row| row.call == call).filter_map(|row| row.ratio(0, 1));
+        ratios.fold(0.0, f64::max)
+    };
+    let product = rows.iter().find(|row| (row.call, row.size.as_str()) == ("product", "rank 6")).unwrap();
+    let (same, lists) = (product.ratio(0, 1).unwrap(), product.ratio(2, 0).unwrap());
+    let (to_tower, to_images) = (largest("image list to tower"), largest("tower to image list"));
+    let aims = [
+        ("product of rank 6: library / (a) at most 1.5", same, same <= 1.5),
+        ("product of rank 6: (b) / library at least 2", lists, lists >= 2.0),
+        ("image list to tower: library / (a) at most 1.5 at each size", to_tower, to_tower <= 1.5),
+        ("tower to image list: library / (a) at most 1.5 at each size", to_images, to_images <= 1.5),
+    ];
+    let mut text = String::from("| aim | measured | holds |\n|---|---|---|\n");
+    for (aim, measured, holds) in aims {
+        writeln!(text, "| {aim} | {measured:.2} | {} |", if holds { "yes" } else { "no" }).unwrap();
+    }
+    text
+}
+
+/// The first line that a program prints, if it is there.
+fn first_line(program: &str, word: &str) -> Option<String> {
+    let output = Command::new(program).arg(word).output().ok()?;
+    Some(String::from_utf8_lossy(&output.stdout).lines().next()?.to_string())
+}
+
+/// The processor, the number of cores and the compilers.
+fn machine() -> String {
+    let cpuinfo = std::fs::read_to_string("/proc/cpuinfo").unwrap_or_default();
+    let name = cpuinfo.lines().find_map(|line| line.strip_prefix("model name")?.split(": ").nth(1)).unwrap_or("unknown");
+    let cores = std::thread::available_parallelism().map_or(1, |cores| cores.get());
+    let versions = [first_line("rustc", "--version"), first_line("rt", "version")];
+    let compilers: Vec<String> = versions.into_iter().flatten().collect();
+    format!("Processor: {name}, {cores} cores. Compilers: {}.\n", compilers.join("; "))
+}
+
+/// The whole page.
+pub fn page(rows: &[Row]) -> String {
+    format!("{HEAD}\n{}\n## Times\n\n{}\n## Aims\n\n{}{TERMS}", machine(), table(rows), aims(rows))
+}

@@ -1,0 +1,228 @@
+//! The library's calls over safe slices: permutations, towers, elements of the Iwahori-Hecke algebra of type A, and run sheets.
+//!
+//! A call answers `Err` with document 01's refusal, and then leaves every slice as it was, or `Ok` with its count or nothing.
+//! `include/hecke.h` says what a permutation, a tower and an element are as bytes and words, and what each call refuses.
+
+pub mod raw;
+
+/// A refusal: its number in document 01's table, and its place, 0 where none is named.
+#[derive(Clone, Copy, Debug, PartialEq, Eq)]
+pub struct Refusal {
+    pub number: u8,
+    pub place: u64,
+}
+
+/// The descent set of a permutation: s_i at bit i - 1, and the number of set bits.
+#[derive(Clone, Copy, Debug, PartialEq, Eq)]
+pub struct Descents {
+    pub mask: u64,
+    pub count: u64,
+}
+
+/// What a call reports after place 0: its count, and the mask where it has one.
+struct Report {
+    count: u64,
+    mask: u64,
+}
+
+/// Makes a call with a report of three words, and reads the report.
+fn reported(call: impl FnOnce(*mut u64, usize) -> u8) -> Result<Report, Refusal> {
+    let mut report = [0; 3];
+    match call(report.as_mut_ptr(), report.len()) {
+        0 => Ok(Report { count: report[1], mask: report[2] }),
+        number => Err(Refusal { number, place: report[0] }),
+    }
+}
+
+/// Writes the tower of an image list.
+///
+/// ```
+/// let mut tower = [0; 2];
+/// assert_eq!(hecke::tower_of_images(&[2, 3, 1], &mut tower), Ok(()));
+/// assert_eq!(tower, [0, 2]);
+///
+/// let twice = hecke::tower_of_images(&[2, 3, 2], &mut tower);
+/// assert_eq!(twice, Err(hecke::Refusal { number: 6, place: 2 }));
+/// ```
+pub fn tower_of_images(images: &[u8], tower: &mut [u8]) -> Result<(), Refusal> {
+    reported(|report, room| unsafe {
+        raw::hecke_tower_of_images(images.as_ptr(), images.len(), tower.as_mut_ptr(), tower.len(), report, room)
+    })
+    .map(|_| ())
+}
+
+/// Writes the image list of a tower.
+///
+/// ```
+/// let mut images = [0; 3];
+/// assert_eq!(hecke::images_of_tower(&[0, 2], &mut images), Ok(()));
+/// assert_eq!(images, [2, 3, 1]);
+/// ```
+pub fn images_of_tower(tower: &[u8], images: &mut [u8]) -> Result<(), Refusal> {
+    reported(|report, room| unsafe {
+        raw::hecke_images_of_tower(tower.as_ptr(), tower.len(), images.as_mut_ptr(), images.len(), report, room)
+    })
+    .map(|_| ())
+}
+
+/// Writes the tower of the inverse of a tower's permutation.
+///
+/// ```
+/// let mut inverse = [0; 2];
+/// assert_eq!(hecke::tower_inverse(&[0, 2], &mut inverse), Ok(()));
+/// assert_eq!(inverse, [1, 1]);
+/// ```
+pub fn tower_inverse(tower: &[u8], result: &mut [u8]) -> Result<(), Refusal> {
+    reported(|report, room| unsafe {
+        raw::hecke_tower_inverse(tower.as_ptr(), tower.len(), result.as_mut_ptr(), result.len(), report, room)
+    })
+    .map(|_| ())
+}
+
+/// Writes the tower of the product of two towers' permutations, the left of which acts first.
+///
+/// ```
+/// let mut product = [0; 2];
+/// assert_eq!(hecke::tower_product(&[0, 2], &[0, 1], &mut product), Ok(()));
+/// assert_eq!(product, [1, 2]);
+/// ```
+pub fn tower_product(left: &[u8], right: &[u8], result: &mut [u8]) -> Result<(), Refusal> {
+    reported(|report, room| unsafe {
+        raw::hecke_tower_product(
+            left.as_ptr(),
+            left.len(),
+            right.as_ptr(),
+            right.len(),
+            result.as_mut_ptr(),
+            result.len(),
+            report,
+            room,
+        )
+    })
+    .map(|_| ())
+}
+
+/// The length of a tower's permutation.
+///
+/// ```
+/// assert_eq!(hecke::tower_length(&[0, 2]), Ok(2));
+/// ```
+pub fn tower_length(tower: &[u8]) -> Result<u64, Refusal> {
+    reported(|report, room| unsafe { raw::hecke_tower_length(tower.as_ptr(), tower.len(), report, room) })
+        .map(|report| report.count)
+}
+
+/// Writes the standard shortest word of a tower's permutation at the front of `word`, and answers the number of its letters.
+///
+/// ```
+/// let mut word = [0; 3];
+/// assert_eq!(hecke::tower_word(&[0, 2], &mut word), Ok(2));
+/// assert_eq!(word[..2], [2, 1]);
+/// ```
+pub fn tower_word(tower: &[u8], word: &mut [u8]) -> Result<u64, Refusal> {
+    reported(|report, room| unsafe {
+        raw::hecke_tower_word(tower.as_ptr(), tower.len(), word.as_mut_ptr(), word.len(), report, room)
+    })
+    .map(|report| report.count)
+}
+
+/// The descent set of a tower's permutation.
+///
+/// ```
+/// assert_eq!(hecke::tower_descents(&[0, 2]), Ok(hecke::Descents { mask: 2, count: 1 }));
+/// ```
+pub fn tower_descents(tower: &[u8]) -> Result<Descents, Refusal> {
+    reported(|report, room| unsafe { raw::hecke_tower_descents(tower.as_ptr(), tower.len(), report, room) })
+        .map(|report| Descents { mask: report.mask, count: report.count })
+}
+
+/// Writes the sum of two elements of rank m, and answers the count.
+///
+/// ```
+/// let mut sum = [0; 2];
+/// assert_eq!(hecke::sum(1, &[2, 3], &[4, 5], &mut sum), Ok(2));
+/// assert_eq!(sum, [6, 8]);
+/// ```
+pub fn sum(m: usize, left: &[u64], right: &[u64], result: &mut [u64]) -> Result<u64, Refusal> {
+    reported(|report, room| unsafe {
+        raw::hecke_sum(
+            m,
+            left.as_ptr(),
+            left.len(),
+            right.as_ptr(),
+            right.len(),
+            result.as_mut_ptr(),
+            result.len(),
+            report,
+            room,
+        )
+    })
+    .map(|report| report.count)
+}
+
+/// Writes an element of rank m times the word c, and answers the count.
+///
+/// ```
+/// let mut result = [0; 2];
+/// assert_eq!(hecke::scale(1, 3, &[2, 3], &mut result), Ok(2));
+/// assert_eq!(result, [6, 9]);
+/// ```
+pub fn scale(m: usize, c: u64, element: &[u64], result: &mut [u64]) -> Result<u64, Refusal> {
+    reported(|report, room| unsafe {
+        raw::hecke_scale(m, c, element.as_ptr(), element.len(), result.as_mut_ptr(), result.len(), report, room)
+    })
+    .map(|report| report.count)
+}
+
+/// Changes an element of rank m by a word of generators, left to right, and answers the count.
+///
+/// ```
+/// let mut element = [1, 0];
+/// assert_eq!(hecke::act_word(1, 3, &[1, 1], &mut element), Ok(6));
+/// assert_eq!(element, [3, 2]);
+/// ```
+pub fn act_word(m: usize, q: u64, word: &[u8], element: &mut [u64]) -> Result<u64, Refusal> {
+    reported(|report, room| unsafe {
+        raw::hecke_act_word(m, q, word.as_ptr(), word.len(), element.as_mut_ptr(), element.len(), report, room)
+    })
+    .map(|report| report.count)
+}
+
+/// Writes the product of two elements of rank m, and answers the count. The scratch has (m + 6) M words or more, of which so
+/// many are zero afterwards.
+///
+/// ```
+/// let (mut product, mut scratch) = ([0; 2], [0; 14]);
+/// assert_eq!(hecke::product(1, 3, &[0, 1], &[0, 1], &mut product, &mut scratch), Ok(9));
+/// assert_eq!(product, [3, 2]);
+/// ```
+pub fn product(m: usize, q: u64, left: &[u64], right: &[u64], result: &mut [u64], scratch: &mut [u64]) -> Result<u64, Refusal> {
+    reported(|report, room| unsafe {
+        raw::hecke_product(
+            m,
+            q,
+            left.as_ptr(),
+            left.len(),
+            right.as_ptr(),
+            right.len(),
+            result.as_mut_ptr(),
+            result.len(),
+            scratch.as_mut_ptr(),
+            scratch.len(),
+            report,
+            room,
+        )
+    })
+    .map(|report| report.count)
+}
+
+/// The check of a whole run sheet.
+///
+/// ```
+/// let sheet = [0x10, 1, 3, 0, 0, 0, 0, 0, 0, 0, 0x20, 0, 0x30, 0, 1, 0x30, 0, 1, 0x40, 0, 0];
+/// assert_eq!(hecke::sheet_check(&sheet), Ok(()));
+/// assert_eq!(hecke::sheet_check(&[0]), Err(hecke::Refusal { number: 12, place: 0 }));
+/// ```
+pub fn sheet_check(sheet: &[u8]) -> Result<(), Refusal> {
+    reported(|report, room| unsafe { raw::hecke_sheet_check(sheet.as_ptr(), sheet.len(), report, room) }).map(|_| ())
+}

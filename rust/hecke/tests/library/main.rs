@@ -1,0 +1,11 @@
+//! The library's calls, safe and raw, held to the crate `plain` on many inputs, good and bad, from fixed seeds.
+
+// A comparison has judged when it returns; its answer may be left.
+#![allow(unused_must_use)]
+
+mod compare;
+mod elements;
+mod lent;
+mod random;
+mod sheets;
+mod towers;

@@ -1,0 +1,215 @@
+//! Run sheets: the check of a whole sheet, its run, and what the program prints (document 01, "Run sheets").
+
+use crate::element::{size, Group};
+use crate::{count, refuse, Refusal};
+
+/// A command with its operands, in document 01's order.
+#[derive(Clone, Copy, Debug, PartialEq, Eq)]
+enum Command {
+    Begin { m: usize, q: u64 },
+    Unit { r: usize },
+    Coefficient { r: usize, i: usize, v: u64 },
+    Generator { r: usize, i: u8 },
+    Product { d: usize, a: usize, b: usize },
+    Sum { d: usize, a: usize, b: usize },
+    Scale { r: usize, v: u64 },
+    Show { r: usize },
+    Pairing { a: usize, b: usize },
+    Equal { a: usize, b: usize },
+    End,
+}
+
+/// The widths of a command's operands, for a known code.
+fn widths(code: u8) -> Option<&'static [usize]> {
+    match code {
+        0x00 => Some(&[]),
+        0x10 => Some(&[1, 8]),
+        0x20 | 0x40 => Some(&[1]),
+        0x21 => Some(&[1, 2, 8]),
+        0x30 | 0x41 | 0x42 => Some(&[1, 1]),
+        0x31 | 0x32 => Some(&[1, 1, 1]),
+        0x33 => Some(&[1, 8]),
+        _ => None,
+    }
+}
+
+/// The operands of these widths, lowest byte first.
+fn operands(bytes: &[u8], widths: &[usize]) -> Vec<u64> {
+    let mut rest = bytes;
+    let mut numbers = Vec::new();
+    for &width in widths {
+        let (number, after) = rest.split_at(width);
+        numbers.push(number.iter().rev().fold(0, |high, &byte| high << 8 | byte as u64));
+        rest = after;
+    }
+    numbers
+}
+
+/// The command of a known code, from its operands.
+fn command(code: u8, x: &[u64]) -> Command {
+    let at = |index: usize| x[index] as usize;
+    match code {
+        0x10 => Command::Begin { m: at(0), q: x[1] },
+        0x20 => Command::Unit { r: at(0) },
+        0x21 => Command::Coefficient { r: at(0), i: at(1), v: x[2] },
+        0x30 => Command::Generator { r: at(0), i: x[1] as u8 },
+        0x31 => Command::Product { d: at(0), a: at(1), b: at(2) },
+        0x32 => Command::Sum { d: at(0), a: at(1), b: at(2) },
+        0x33 => Command::Scale { r: at(0), v: x[1] },
+        0x40 => Command::Show { r: at(0) },
+        0x41 => Command::Pairing { a: at(0), b: at(1) },
+        0x42 => Command::Equal { a: at(0), b: at(1) },
+        _ => Command::End,
+    }
+}
+
+impl Command {
+    /// Whether every operand is in its range, for a sheet of rank m.
+    fn in_range(self, m: usize) -> bool {
+        let registers = |list: &[usize]| list.iter().all(|&r| r < 4);
+        match self {
+            Command::Begin { m, .. } => m <= 5,
+            Command::Unit { r } | Command::Scale { r, .. } | Command::Show { r } => registers(&[r]),
+            Command::Coefficient { r, i, .. } => registers(&[r]) && i < size(m),
+            Command::Generator { r, i } => registers(&[r]) && i >= 1 && i as usize <= m,
+            Command::Product { d, a, b } | Command::Sum { d, a, b } => registers(&[d, a, b]),
+            Command::Pairing { a, b } | Command::Equal { a, b } => registers(&[a, b]),
+            Command::End => true,
+        }
+    }
+}
+
+/// The commands of a sheet, the end command among them, or its refusal.
+fn commands(sheet: &[u8]) -> Result<Vec<Command>, Refusal> {
+    refuse(sheet.is_empty() || sheet.len() > 4096, 9, 0)?;
+    let (mut list, mut offset, mut rank) = (Vec::new(), 0, 0);
+    while offset < sheet.len() {
+        let (code, rest) = (sheet[offset], &sheet[offset + 1..]);
+        let Some(widths) = widths(code) else {
+            return Err(Refusal { number: 10, place: offset as u64 });
+        };
+        let width = widths.iter().sum();
+        refuse(rest.len() < width, 11, offset)?;
+        refuse((code == 0x10) != (offset == 0), 12, offset)?;
+        let command = command(code, &operands(rest, widths));
+        if let Command::Begin { m, .. } = command {
+            rank = m;
+        }
+        refuse(!command.in_range(rank), 13, offset)?;
+        list.push(command);
+        offset += 1 + width;
+        if command == Command::End {
+            refuse(offset < sheet.len(), 14, offset)?;
+            return Ok(list);
+        }
+    }
+    Err(Refusal { number: 14, place: sheet.len() as u64 })
+}
+
+/// The check of a whole sheet.
+pub fn check(sheet: &[u8]) -> Result<(), Refusal> {
+    commands(sheet).map(|_| ())
+}
+
+/// The state of a run: rank, q, the registers of M words each, the ring operations so far, and the text so far.
+struct Run {
+    m: usize,
+    q: u64,
+    registers: [Vec<u64>; 4],
+    count: u64,
+    text: String,
+}
+
+impl Run {
+    fn begin(m: usize, q: u64) -> Run {
+        let registers = [(); 4].map(|_| vec![0; size(m)]);
+        Run { m, q, registers, count: 0, text: format!("H {m} {q}\n") }
+    }
+
+    fn obey(&mut self, command: Command) {
+        let size = size(self.m) as u64;
+        match command {
+            Command::Unit { r } => {
+                self.registers[r].fill(0);
+                self.registers[r][0] = 1;
+            }
+            Command::Coefficient { r, i, v } => self.registers[r][i] = v,
+            Command::Generator { r, i } => self.write(r, self.group().act(self.q, &self.registers[r], &[i]), 3 * size / 2),
+            Command::Product { d, a, b } => {
+                let words = self.group().times(self.q, &self.registers[a], &self.registers[b]);
+                self.write(d, words, count::of_product(self.m));
+            }
+            Command::Sum { d, a, b } => self.write(d, self.pairs(a, b).map(|(x, y)| x.wrapping_add(y)).collect(), size),
+            Command::Scale { r, v } => self.write(r, self.pairs(r, r).map(|(x, _)| x.wrapping_mul(v)).collect(), size),
+            Command::Show { r } => self.show(r),
+            Command::Pairing { a, b } => self.text += &format!("P {}\n", self.pairing(a, b)),
+            Command::Equal { a, b } => self.text += &format!("Q {}\n", (self.registers[a] == self.registers[b]) as u8),
+            Command::End => self.text += &format!("N {}\n", self.count),
+            Command::Begin { .. } => {}
+        }
+    }
+
+    fn group(&self) -> &'static Group {
+        Group::of_rank(self.m)
+    }
+
+    fn write(&mut self, r: usize, words: Vec<u64>, count: u64) {
+        self.registers[r] = words;
+        self.count += count;
+    }
+
+    /// The coefficients of two registers, side by side.
+    fn pairs(&self, a: usize, b: usize) -> impl Iterator<Item = (u64, u64)> + '_ {
+        self.registers[a].iter().copied().zip(self.registers[b].iter().copied())
+    }
+
+    fn show(&mut self, r: usize) {
+        self.text += &format!("R {r}\n");
+        for (index, value) in self.registers[r].iter().enumerate().filter(|(_, &value)| value != 0) {
+            self.text += &format!("{index} {value}\n");
+        }
+    }
+
+    /// The sum over w of q to the power ℓ(w) times a_w times b_w.
+    fn pairing(&self, a: usize, b: usize) -> u64 {
+        let terms = self.pairs(a, b).zip(&self.group().lengths);
+        terms.fold(0, |sum: u64, ((x, y), &length)| {
+            sum.wrapping_add(self.q.wrapping_pow(length as u32).wrapping_mul(x).wrapping_mul(y))
+        })
+    }
+}
+
+/// What the program prints for a sheet.
+pub fn printed(sheet: &[u8]) -> Vec<u8> {
+    let text = match commands(sheet).as_deref() {
+        Ok([Command::Begin { m, q }, rest @ ..]) => {
+            let mut run = Run::begin(*m, *q);
+            rest.iter().for_each(|&command| run.obey(command));
+            run.text
+        }
+        Ok(_) => unreachable!("a sheet that is not refused begins with 0x10"),
+        Err(refusal) => format!("E {} {}\n", refusal.number, refusal.place),
+    };
+    text.into_bytes()
+}
+
+#[cfg(test)]
+mod tests {
+    use super::*;
+
+    /// Document 01's example.
+    #[test]
+    fn example() {
+        let sheet = [0x10, 1, 3, 0, 0, 0, 0, 0, 0, 0, 0x20, 0, 0x30, 0, 1, 0x30, 0, 1, 0x40, 0, 0];
+        assert_eq!(check(&sheet), Ok(()));
+        assert_eq!(printed(&sheet), b"H 1 3\nR 0\n0 3\n1 2\nN 6\n");
+    }
+
+    #[test]
+    fn refused() {
+        assert_eq!(printed(&[]), b"E 9 0\n");
+        assert_eq!(printed(&[0]), b"E 12 0\n");
+        assert_eq!(printed(&[0x10, 6, 0, 0, 0, 0, 0, 0, 0, 0, 0]), b"E 13 0\n");
+        assert_eq!(printed(&[0x10, 5, 0, 0, 0, 0, 0, 0, 0, 0]), b"E 14 10\n");
+    }
+}
