@@ -1,9 +1,9 @@
 -- The three parts of x that `act` passes to its calls: what the calls require, and x as a whole when the parts are back. Rests on Parts, Pieces and
 -- algebra's Blocks.
 --
---   Cut m j l b x w   what `act` has where it cuts x into blocks of b words; w is the work slice
+--   Cut m j l b high x w   what `act` has where it cuts x into blocks of b words, the third part from `high` on; w is the work slice
 use mathlib.Core.Path.{_≡_, sym, ap, _∙_}
-use mathlib.Core.List.{List, _++_, append-assoc}
+use mathlib.Core.List.{List, [], _++_, append-assoc}
 use Prim.Native.Nat.{ℕ, suc, _+_, _*_, _-_, _≤_}
 use native.Mathlib.Nat.{add-mul, suc-mul, mul-le-mul-right}
 use native.Mathlib.Omega.{arith}
@@ -49,25 +49,28 @@ module _ (low high : ℕ) (x v₁ v₂ : List ℕ) (lh : low ≤ high) (hx : hig
       ∙ ap (λ (y : List ℕ). y ++ v₃) (take-at (v₁ ++ v₂) rest high (length-append v₁ v₂ ∙ omega arith))
       ∙ append-assoc v₁ v₂ v₃
 
+-- ---- one letter
+
+pub letter-pre : {m j l : ℕ} {x w : List ℕ} → ActPre m j l x w → 1 ≤ j → ActPre m j 1 x []
+letter-pre p some = record { rank = p .rank; below = p .below; within = some; words = p .words; room = λ h. absurd (omega arith) }
+
 -- ---- the parts of x
 
-pub record Cut (m j l b : ℕ) (x w : List ℕ) : Type 0 where
+pub record Cut (m j l b high : ℕ) (x w : List ℕ) : Type 0 where
   pub pre : ActPre m j l x w
   pub some : 1 ≤ l
   pub size : b ≡ factorial (suc (m - 1))
+  pub top : high ≡ (m - j) * b + l * b + b
 
-module _ {m j l b : ℕ} {x w : List ℕ} (p : Cut m j l b x w) where
+module _ {m j l b high : ℕ} {x w : List ℕ} (p : Cut m j l b high x w) where
   abbrev low : ℕ
   low = (m - j) * b
-
-  abbrev high : ℕ
-  high = low + l * b + b
 
   whole : length x ≡ suc m * b
   whole = p .pre .words ∙ element-blocks m b (omega (arith, p .pre .below, p .pre .within)) (p .size)
 
   high-blocks : high ≡ (m - j + l + 1) * b
-  high-blocks = sym (next-block (m - j + l) b ∙ ap (λ (n : ℕ). n + b) (add-mul (m - j) l b))
+  high-blocks = p .top ∙ sym (next-block (m - j + l) b ∙ ap (λ (n : ℕ). n + b) (add-mul (m - j) l b))
 
   above : length x ≡ high + (j - l) * b
   above =
@@ -88,7 +91,7 @@ module _ {m j l b : ℕ} {x w : List ℕ} (p : Cut m j l b x w) where
     size = p .size;
     below = λ h. omega arith;
     within = λ h. p .pre .within;
-    words = length-take-le (low - 0) x (omega (arith, above)) ∙ omega arith;
+    words = length-take-le (low - 0) x (omega (arith, above, p .top)) ∙ omega arith;
     room = λ h. omega (arith, two-blocks h);
   }
 
@@ -104,15 +107,18 @@ module _ {m j l b : ℕ} {x w : List ℕ} (p : Cut m j l b x w) where
     pub middle-end : high ≤ length y₁
     middle-end = omega (arith, above, size-1)
 
-    pub middle-pre : (v : List ℕ) → length v ≡ length w → MiddlePre (m - 1) b j l (midOf low (high - low) y₁) v
-    middle-pre v ev = record {
+    pub middle-size : length (midOf low (high - low) y₁) ≡ suc l * b
+    middle-size = mid-len low high y₁ middle-end ∙ omega (arith, suc-mul l b, p .top)
+
+    pub middle-pre : 2 ≤ l → (v : List ℕ) → length v ≡ length w → MiddlePre (m - 1) b j l (midOf low (high - low) y₁) v
+    middle-pre two v ev = record {
       rank = omega (arith, p .pre .rank);
       size = p .size;
       below = omega (arith, p .pre .below);
       within = p .pre .within;
-      some = p .some;
-      words = mid-len low high y₁ (omega (arith, above, size-1)) ∙ omega (arith, suc-mul l b);
-      room = λ h. omega (arith, two-blocks h);
+      some = two;
+      words = middle-size;
+      room = omega (arith, two-blocks two);
     }
 
     -- ---- the second part is back as v₂
@@ -147,10 +153,13 @@ module _ {m j l b : ℕ} {x w : List ℕ} (p : Cut m j l b x w) where
           → v₃ ≡ blocks (j - l) (λ k. acted q r (m - 1) (j - 1) l (block b k (midOf high (length y₂ - high) y₂)))
           → putMid high (length y₂ - high) y₂ v₃ ≡ acted q r m j l x
       act-whole q r v₃ e₁ e₂ e₃ =
-          after-third low high x v₁ v₂ (omega arith) high-within n₁ n₂ v₃
+          after-third low high x v₁ v₂ low-high high-within n₁ n₂ v₃
           ∙ (λ i. first i ++ (second i ++ third i))
           ∙ sym (act-pieces q r m j l b x (omega (arith, p .pre .below, p .pre .within)) (p .some) (p .size))
         where
+          low-high : low ≤ high
+          low-high = omega (arith, p .top)
+
           n₁ : length v₁ ≡ low
           n₁ = s₁ ∙ low-pre .words
 
@@ -159,14 +168,14 @@ module _ {m j l b : ℕ} {x w : List ℕ} (p : Cut m j l b x w) where
 
           first : v₁ ≡ blocks (m - j) (λ k. acted q r (m - 1) j l (block b k x))
           first = e₁ ∙ blocks-cong (m - j) _ _ (λ k h.
-              ap (acted q r (m - 1) j l) (block-take b k (low - 0) x (omega (arith, below-block k (m - j) b h)) (omega (arith, high-within))))
+              ap (acted q r (m - 1) j l) (block-take b k (low - 0) x (omega (arith, below-block k (m - j) b h)) (omega (arith, low-high, high-within))))
 
           second : v₂ ≡ turned q r (m - 1) b j l (drop low x)
           second = e₂ ∙ turned-cong q r (m - 1) b j l _ _ (p .some) (λ i h.
-              block-take b i (high - low) (drop low y₁) (omega (arith, mul-le-mul-right b h)) (rw length-drop (omega (arith, high-within, size-1)))
-              ∙ ap (block b i) (after-first low x v₁ (omega (arith, high-within)) n₁))
+              block-take b i (high - low) (drop low y₁) (omega (arith, mul-le-mul-right b h, p .top)) (rw length-drop (omega (arith, low-high, high-within, size-1)))
+              ∙ ap (block b i) (after-first low x v₁ (omega (arith, low-high, high-within)) n₁))
 
           third : v₃ ≡ blocks (j - l) (λ k. acted q r (m - 1) (j - 1) l (block b k (drop ((m - j + l + 1) * b) x)))
           third = e₃ ∙ ap (λ (y : List ℕ). blocks (j - l) (λ k. acted q r (m - 1) (j - 1) l (block b k y)))
               (take-all (length y₂ - high) (drop high y₂) (rw length-drop (omega arith))
-              ∙ after-second low high x v₁ v₂ (omega arith) high-within n₁ n₂ ∙ ap (λ (n : ℕ). drop n x) high-blocks)
+              ∙ after-second low high x v₁ v₂ low-high high-within n₁ n₂ ∙ ap (λ (n : ℕ). drop n x) high-blocks)

@@ -114,17 +114,13 @@ multiplied-one q r m h g =
     λ k. sym (multiplied-zero q r m 0 h (block 1 k g) refl) ∙ ap (λ (c : ℕ). scale ℕ words c h) (first-word k g) in
     multiplied-suc q r m 0 h g ∙ ap₂ (plus ℕ words) (acted-none q r m 1 _ ∙ multiple 0) (ap (acted q r m 1 1) (multiple 1))
 
--- the first s words of scratch came back as v, and then those after them as w
-pub one-whole : (q r : ℕ) {m s : ℕ} {result scratch h g v y z t : List ℕ} (w : List ℕ) → TimesPre m 1 result scratch h g → s ≡ factorial (suc m)
+-- the first s words of scratch came back as v
+pub one-whole : (q r : ℕ) {m s : ℕ} {result scratch h g v y z t : List ℕ} → TimesPre m 1 result scratch h g → s ≡ factorial (suc m)
     → length v ≡ length (take (s - 0) scratch) → v ≡ scale ℕ words (getD g 0 0) h → y ≡ scale ℕ words (getD g 1 0) h
-    → z ≡ acted q r m 1 1 y → length z ≡ length result
-    → t ≡ plus ℕ words (take (length z) (putMid s (length (putMid 0 (s - 0) scratch v) - s) (putMid 0 (s - 0) scratch v) w)) z → t ≡ multiplied q r m 1 h g
-one-whole q r {m} {s} {scratch = scratch} {h = h} {g = g} {v = v} w c es sv ev ey ez sz e =
-    let x = putMid 0 (s - 0) scratch v in
-    let same : length x ≡ length scratch = same-len-mid 0 (s - 0) scratch v sv in
+    → z ≡ acted q r m 1 1 y → length z ≡ length result → t ≡ plus ℕ words (take (length z) (putMid 0 (s - 0) scratch v)) z → t ≡ multiplied q r m 1 h g
+one-whole q r {m} {s} {scratch = scratch} {h = h} {g = g} {v = v} c es sv ev ey ez sz e =
     let room : s ≤ length scratch = omega (arith, c .room) in
-    let first = ap (λ (n : ℕ). take n (putMid s (length x - s) x w)) (sz ∙ c .result ∙ sym es)
-    ∙ take-put s (length x - s) x w (omega arith) ∙ front-put s scratch v _ refl room sv in
+    let first = front-put s scratch v _ (sz ∙ c .result ∙ sym es) room sv in
     e ∙ (λ i. plus ℕ words ((first ∙ ev) i) ((ez ∙ ap (acted q r m 1 1) ey) i)) ∙ sym (multiplied-one q r m h g)
 
 -- ---- the sum of the first k summands

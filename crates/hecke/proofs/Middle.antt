@@ -155,16 +155,13 @@ turning-all {q} {r} {m} {j} {l} {b} {x₀} {x} some size h e =
 
 -- ---- one part
 
-pub two-blocks : {l n : ℕ} (b : ℕ) → l ≡ 1 → n ≡ suc l * b → n ≡ b + b
-two-blocks b one e = e ∙ ap (λ k. suc k * b) one ∙ omega arith
-
 kept-one : (q r m b j : ℕ) (x : List ℕ) → length x ≡ b + b → kept q r m b j x 1 ≡ drop b x
 unfolding kept block
 kept-one q r m b j x size =
     let e : 1 * b ≡ b = omega arith in
     acted-none q r m (j - 1) _ ∙ ap (λ (n : ℕ). take b (drop n x)) e ∙ take-all b (drop b x) (rw length-drop (omega arith))
 
-exchanged-one : (q r m b j : ℕ) (x : List ℕ) → length x ≡ b + b
+pub exchanged-one : (q r m b j : ℕ) (x : List ℕ) → length x ≡ b + b
     → scale ℕ words q (drop b x) ++ plus ℕ words (take b x) (scale ℕ words r (drop b x)) ≡ turned q r m b j 1 x
 unfolding turned blocks sums block
 exchanged-one q r m b j x size =
@@ -172,8 +169,3 @@ exchanged-one q r m b j x size =
     ap₂ {C = List ℕ} (λ u v. u ++ v)
     (ap (scale ℕ words q) (k ∙ sym (acted-none q r m (j - 1) _)))
     (ap₂ (λ u s. plus ℕ words u (scale ℕ words r s)) (ap (λ (n : ℕ). take b (drop n x)) (sym (zero-mul b))) k)
-
-pub exchanged : (q r m b j : ℕ) {l : ℕ} (x : List ℕ) {v : List ℕ} → l ≡ 1 → length x ≡ suc l * b
-    → v ≡ scale ℕ words q (drop b x) ++ plus ℕ words (take b x) (scale ℕ words r (drop b x)) → v ≡ turned q r m b j l x
-exchanged q r m b j x one size e =
-    e ∙ exchanged-one q r m b j x (two-blocks b one size) ∙ ap (λ n. turned q r m b j n x) (sym one)

@@ -63,9 +63,9 @@ pub record MiddlePre (m b j l : ℕ) (x w : List ℕ) : Type 0 where
   pub size : b ≡ factorial (suc m)
   pub below : j ≤ suc m
   pub within : l ≤ j
-  pub some : 1 ≤ l
+  pub some : 2 ≤ l
   pub words : length x ≡ suc l * b
-  pub room : 2 ≤ l → b + b ≤ length w
+  pub room : b + b ≤ length w
 
 -- out is the result
 pub record TimesPre (m l : ℕ) (out scratch h g : List ℕ) : Type 0 where

@@ -1,6 +1,7 @@
 // The action of T_a(j,l) on an element, block by block (Proposition 3.2), and that of a word.
 
 ghost use mathlib.Core.Path.{_≡_};
+ghost use mathlib.Core.List.{[]};
 ghost use Prim.Native.Nat.{ℕ, suc, _≤_};
 ghost use lib.ListN.{length};
 ghost use Rattle.ring.specs.Modular.{words};
@@ -18,6 +19,10 @@ pub(crate) fn act(x: &mut [u64], work: &mut [u64], m: usize, j: usize, l: usize,
     ensures { λ _. ⌜ now (x .exit) ≡ acted q r m j l (now (x .entry)) ⌝ }
 {
     if l == 0 {
+        return;
+    }
+    if l == 1 {
+        letter(x, m, j, q, r);
         return;
     }
     let lower = m - 1;
@@ -57,10 +62,6 @@ fn middle(x: &mut [u64], work: &mut [u64], m: usize, b: usize, j: usize, l: usiz
     requires { ⌜ MiddlePre m b j l (now x) (now work) ⌝ }
     ensures { λ _. ⌜ now (x .exit) ≡ turned q r m b j l (now (x .entry)) ⌝ }
 {
-    if l == 1 {
-        lists::exchange(x, b, q, r);
-        return;
-    }
     for i in 0..l {
         let k = i + 1;
         let at = k * b;
@@ -72,13 +73,39 @@ fn middle(x: &mut [u64], work: &mut [u64], m: usize, b: usize, j: usize, l: usiz
     lists::turn(x, work, b, q, r);
 }
 
-// The letters act on x one by one. One letter needs no scratch.
+// x T_j in the place of x, of rank m. This is T_a(j,1), for which the two blocks that depend on one another change in place: it
+// needs no work slice.
+pub(crate) fn letter(x: &mut [u64], m: usize, j: usize, q: u64, r: u64)
+    requires { ⌜ ActPre m j 1 (now x) [] ⌝ }
+    ensures { λ _. ⌜ now (x .exit) ≡ acted q r m j 1 (now (x .entry)) ⌝ }
+{
+    let lower = m - 1;
+    let b = crate::size(lower);
+    let low = (m - j) * b;
+    let high = low + b + b;
+    each_letter(&mut x[0..low], lower, b, m - j, j, q, r);
+    lists::exchange(&mut x[low..high], b, q, r);
+    each_letter(&mut x[high..], lower, b, j - 1, j - 1, q, r);
+}
+
+// T_j acts on each of the n blocks of x, of rank m and b words.
+fn each_letter(x: &mut [u64], m: usize, b: usize, n: usize, j: usize, q: u64, r: u64)
+    requires { ⌜ EachPre m b n j 1 (now x) [] ⌝ }
+    ensures { λ _. ⌜ now (x .exit) ≡ blocks n (λ k. acted q r m j 1 (block b k (now (x .entry)))) ⌝ }
+{
+    for k in 0..n {
+        let at = k * b;
+        let end = at + b;
+        letter(&mut x[at..end], m, j, q, r);
+    }
+}
+
+// The letters act on x one by one.
 pub(crate) fn act_letters(x: &mut [u64], word: &[u8], m: usize, q: u64, r: u64)
     requires { ⌜ (m ≤ 6) × (length (now x) ≡ factorial (suc m)) × Word m (now word) ⌝ }
     ensures { λ _. ⌜ now (x .exit) ≡ act ℕ words q r m (now (word .entry)) (now (x .entry)) ⌝ }
 {
-    let mut none = [0u64; 0];
     for i in 0..word.len() {
-        act(x, &mut none, m, word[i] as usize, 1, q, r);
+        letter(x, m, word[i] as usize, q, r);
     }
 }

@@ -57,7 +57,7 @@ fn times_one(
 {
     lists::scale_into(&mut scratch[0..size], g[0], h);
     lists::scale_into(result, g[1], h);
-    action::act(result, &mut scratch[size..], m, 1, 1, q, r);
+    action::letter(result, m, 1, q, r);
     lists::finish(result, scratch);
 }
 

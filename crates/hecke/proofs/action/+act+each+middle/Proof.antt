@@ -11,8 +11,8 @@ use Rattle.hecke.specs.Steps.{acted}
 use Rattle.hecke.proofs.Parts.{fits-block, part-size}
 use Rattle.hecke.proofs.Passed.{Passed, passed-none, passed-more, passed-all}
 use Rattle.hecke.proofs.Pieces.{acted-none}
-use Rattle.hecke.proofs.Middle.{step-pre, Turning, turning-none, turning-more, turning-all, two-blocks, exchanged}
-use Rattle.hecke.proofs.Act.{Cut, high-within, low-pre, middle-end, middle-pre, high-end, high-pre, act-length, act-whole}
+use Rattle.hecke.proofs.Middle.{step-pre, Turning, turning-none, turning-more, turning-all}
+use Rattle.hecke.proofs.Act.{Cut, letter-pre, high-within, low-pre, middle-end, middle-pre, high-end, high-pre, act-length, act-whole}
 use Rattle.hecke.proofs.action.act.Reads as act
 use Rattle.hecke.proofs.action.act.Kinds as act-kinds
 use Rattle.hecke.proofs.action.+act+each+middle.Lts-act as act-lts
@@ -22,8 +22,8 @@ use Rattle.hecke.proofs.action.+act+each+middle.Lts-each as each-lts
 use Rattle.hecke.proofs.action.middle.Reads as middle
 use Rattle.hecke.proofs.action.middle.Kinds as middle-kinds
 use Rattle.hecke.proofs.action.+act+each+middle.Lts-middle as middle-lts
+use Rattle.hecke.proofs.action.letter.Reads as letter-reads
 use Rattle.hecke.proofs.lists.collect.Reads as collect-reads
-use Rattle.hecke.proofs.lists.exchange.Reads as exchange-reads
 use Rattle.hecke.proofs.lists.turn.Reads as turn-reads
 use Rattle.hecke.proofs.size.Reads as size-reads
 use Rattle.hecke.proofs.action.+act+each+middle.{statement}
@@ -59,17 +59,42 @@ middle-below t = and 2 middle-kinds.ps (falls 2 middle-kinds.ps _<_ μ-middle t)
 -- ---- act
 
 abbrev act-claims : ℕ → act-lts.Claims
-act-claims t = (size-reads.Asked, size-reads.Learnt, each-below t, each.Post, middle-below t, middle.Post)
+act-claims t = (
+  letter-reads.Asked,
+  letter-reads.Learnt,
+  size-reads.Asked,
+  size-reads.Learnt,
+  each-below t,
+  each.Post,
+  middle-below t,
+  middle.Post,
+)
 
 act-returns : (t : ℕ) → act-lts.Need-returns (act-claims t) (act-at t) act.Post
 act-returns t c =
     let u = c .before .before .before .args in
     sym (ap (λ n. acted (u .q) (u .r) (u .m) (u .j) n (u .x .now)) (c .if1 .taken) ∙ acted-none (u .q) (u .r) (u .m) (u .j) (u .x .now))
 
+act-letter-requires : (t : ℕ) → act-lts.Need-letter-requires (act-claims t) (act-at t) act.Post
+act-letter-requires t c κs = let start = c .before .before .before .before .before in
+    letter-pre (start .pre .1) (omega (arith, c .before .if2 .taken, start .pre .1 .within))
+
+act-returns-2 : (t : ℕ) → act-lts.Need-returns-2 (act-claims t) (act-at t) act.Post
+act-returns-2 t c =
+    let after = c .before .before in
+    let one = after .before .before in
+    let u = one .before .before .before .before .args in
+    after .letter .ensures ∙ ap (λ n. acted (u .q) (u .r) (u .m) (u .j) n (u .x .now)) (sym (one .if2 .taken))
+
+-- two letters or more are left to the code after both tests
+act-two : (t : ℕ) (c : act-lts.After-size (act-claims t) (act-at t) act.Post) → 2 ≤ c .before .before .before .before .before .args .l
+act-two t c = omega (arith, c .before .before .if1 .left, c .before .if2 .left)
+
 -- x and work where x is cut into blocks
 act-cut : (t : ℕ) (c : act-lts.After-size (act-claims t) (act-at t) act.Post)
-    → let u = c .before .before .before .before .args in Cut (u .m) (u .j) (u .l) (c .size .result) (u .x .now) (u .work .now)
-act-cut t c = record { pre = c .before .before .before .before .pre .1; some = omega (arith, c .before .if1 .left); size = c .size .ensures }
+    → let u = c .before .before .before .before .before .args in let b = c .size .result in
+    Cut (u .m) (u .j) (u .l) b ((u .m - u .j) * b + u .l * b + b) (u .x .now) (u .work .now)
+act-cut t c = record { pre = c .before .before .before .before .before .pre .1; some = omega (arith, act-two t c); size = c .size .ensures; top = refl }
 
 act-each-requires : (t : ℕ) → act-lts.Need-each-requires (act-claims t) (act-at t) act.Post
 act-each-requires t c κs = (omega arith, low-pre (act-cut t (c .before .before)))
@@ -82,7 +107,8 @@ act-part-middle-end t c =
 act-middle-requires : (t : ℕ) → act-lts.Need-middle-requires (act-claims t) (act-at t) act.Post
 act-middle-requires t c κs =
     let low = c .before .before .before .before .before .before in
-    (omega arith, middle-pre (act-cut t (low .before .before .before)) (low .each .last .0) (low .each .kept .0) _ (low .each .kept .1 .0))
+    let size = low .before .before .before in
+    (omega arith, middle-pre (act-cut t size) (low .each .last .0) (low .each .kept .0) (act-two t size) _ (low .each .kept .1 .0))
 
 act-mul-each : (t : ℕ) → act-lts.Need-mul-each (act-claims t) (act-at t) act.Post
 act-mul-each t c =
@@ -103,23 +129,23 @@ act-each-requires-2 t c κs =
     let work = mid .middle .kept .1 .0 ∙ low .each .kept .1 .0 in
     (omega arith, high-pre cut (low .each .last .0) (low .each .kept .0) (mid .middle .last .0) (mid .middle .kept .0) _ work)
 
-act-same-length : (t : ℕ) → act-lts.Need-same-length (act-claims t) (act-at t) act.Post
-act-same-length t c =
+act-same-length-2 : (t : ℕ) → act-lts.Need-same-length-2 (act-claims t) (act-at t) act.Post
+act-same-length-2 t c =
     let top = c .before .before .before .before in
     let mid = top .before .before .before .before .before .before .before in
     let low = mid .before .before .before .before .before .before .before in
     let cut = act-cut t (low .before .before .before) in
     act-length cut (low .each .last .0) (low .each .kept .0) (mid .middle .last .0) (mid .middle .kept .0) (top .each2 .last .0) (top .each2 .kept .0)
 
-act-same-length-2 : (t : ℕ) → act-lts.Need-same-length-2 (act-claims t) (act-at t) act.Post
-act-same-length-2 t c =
+act-same-length-3 : (t : ℕ) → act-lts.Need-same-length-3 (act-claims t) (act-at t) act.Post
+act-same-length-3 t c =
     let top = c .before .before .before .before in
     let mid = top .before .before .before .before .before .before .before in
     let low = mid .before .before .before .before .before .before .before in
     top .each2 .kept .1 .0 ∙ mid .middle .kept .1 .0 ∙ low .each .kept .1 .0
 
-act-returns-2 : (t : ℕ) → act-lts.Need-returns-2 (act-claims t) (act-at t) act.Post
-act-returns-2 t c =
+act-returns-3 : (t : ℕ) → act-lts.Need-returns-3 (act-claims t) (act-at t) act.Post
+act-returns-3 t c =
     let top = c .before .before .before .before in
     let mid = top .before .before .before .before .before .before .before in
     let low = mid .before .before .before .before .before .before .before in
@@ -184,8 +210,6 @@ each-returns t c =
 
 abbrev middle-claims : ℕ → middle-lts.Claims
 middle-claims t = (
-  exchange-reads.Asked,
-  exchange-reads.Learnt,
   act-below t,
   act.Post,
   collect-reads.Asked,
@@ -200,59 +224,47 @@ middle-Inv-loop x₀ work₀ m b j l q r i₀ x work i = (i ≤ l) × Turning q 
 abbrev middle-μ-loop : middle-lts.MeasureT-loop
 middle-μ-loop x₀ work₀ m b j l q r i₀ x work i = l - i
 
-middle-exchange-requires : (t : ℕ) → middle-lts.Need-exchange-requires (middle-claims t) (middle-at t) middle.Post middle-Inv-loop middle-μ-loop
-middle-exchange-requires t c κs = two-blocks _ (c .before .if1 .taken) (c .before .before .before .before .pre .1 .words)
-
-middle-returns : (t : ℕ) → middle-lts.Need-returns (middle-claims t) (middle-at t) middle.Post middle-Inv-loop middle-μ-loop
-middle-returns t c =
-    let after = c .before .before in
-    let start = after .before .before .before .before .before in
-    exchanged _ _ (start .args .m) _ (start .args .j) _ (after .before .before .if1 .taken) (start .pre .1 .words) (after .exchange .ensures)
-
 middle-loop-holds : (t : ℕ) → middle-lts.Need-loop-holds (middle-claims t) (middle-at t) middle.Post middle-Inv-loop middle-μ-loop
 middle-loop-holds t c =
-    let u = c .before .before .before .args in
+    let u = c .before .before .args in
     (omega arith, turning-none (u .q) (u .r) (u .m) (u .j) (u .l) (u .b) (u .x .now) (u .work .now))
 
 -- the step's block is within x
 middle-fits : (t : ℕ) (c : middle-lts.In-loop (middle-claims t) (middle-at t) middle.Post middle-Inv-loop middle-μ-loop)
-    → let b = c .before .before .before .before .before .args .b in (c .before .loop .i + 1) * b + b ≤ length (c .before .loop .x)
+    → let b = c .before .before .before .before .args .b in (c .before .loop .i + 1) * b + b ≤ length (c .before .loop .x)
 middle-fits t c =
-    let at = c .before .loop in let start = c .before .before .before .before .before in
+    let at = c .before .loop in let start = c .before .before .before .before in
     fits-block (at .i + 1) (suc (start .args .l)) (start .args .b) (length (at .x)) (omega arith) (omega (arith, at .inv .1 .done .same, start .pre .1 .words))
 
 -- two blocks are within work
 middle-room : (t : ℕ) (c : middle-lts.At-loop (middle-claims t) (middle-at t) middle.Post middle-Inv-loop middle-μ-loop)
-    → let b = c .before .before .before .before .args .b in b + b ≤ length (c .loop .work)
-middle-room t c =
-    let start = c .before .before .before .before in
-    let two : 2 ≤ start .args .l = omega (arith, c .before .if1 .left, start .pre .1 .some) in
-    omega (arith, start .pre .1 .room two, c .loop .inv .1 .same)
+    → let b = c .before .before .before .args .b in b + b ≤ length (c .loop .work)
+middle-room t c = omega (arith, c .before .before .before .pre .1 .room, c .loop .inv .1 .same)
 
 middle-act-requires : (t : ℕ) → middle-lts.Need-act-requires (middle-claims t) (middle-at t) middle.Post middle-Inv-loop middle-μ-loop
 middle-act-requires t c κs =
     let step = c .before .before in
     let at = step .before .loop in
-    let pre = step .before .before .before .before .before .pre .1 in
+    let pre = step .before .before .before .before .pre .1 in
     let room = middle-room t (step .before) in
     (omega arith, step-pre (at .i) (at .x) (at .work) pre (omega (arith, pre .below)) (omega (arith, pre .within)) (middle-fits t step) room)
 
 -- the same when the first action of the step is back
 middle-fits-2 : (t : ℕ) (c : middle-lts.After-act (middle-claims t) (middle-at t) middle.Post middle-Inv-loop middle-μ-loop)
-    → let at = c .before .before .before .before .loop in let b = c .before .before .before .before .before .before .before .before .args .b in
+    → let at = c .before .before .before .before .loop in let b = c .before .before .before .before .before .before .before .args .b in
     (at .i + 1) * b + b ≤ length (putMid ((at .i + 1) * b) ((at .i + 1) * b + b - (at .i + 1) * b) (at .x) (c .act .last .0))
 middle-fits-2 t c =
     let at = c .before .before .before .before .loop in
-    let b = c .before .before .before .before .before .before .before .before .args .b in
+    let b = c .before .before .before .before .before .before .before .args .b in
     let k = at .i + 1 in
     omega (arith, middle-fits t (c .before .before .before), same-len-mid (k * b) (k * b + b - k * b) (at .x) (c .act .last .0) (c .act .kept .0))
 
 middle-room-2 : (t : ℕ) (c : middle-lts.After-act (middle-claims t) (middle-at t) middle.Post middle-Inv-loop middle-μ-loop)
-    → let at = c .before .before .before .before .loop in let b = c .before .before .before .before .before .before .before .before .args .b in
+    → let at = c .before .before .before .before .loop in let b = c .before .before .before .before .before .before .before .args .b in
     b + b ≤ length (putMid b (length (at .work) - b) (at .work) (c .act .last .1 .0))
 middle-room-2 t c =
     let at = c .before .before .before .before .loop in
-    let b = c .before .before .before .before .before .before .before .before .args .b in
+    let b = c .before .before .before .before .before .before .before .args .b in
     let same = same-len-mid b (length (at .work) - b) (at .work) (c .act .last .1 .0) (c .act .kept .1 .0) in
     omega (arith, middle-room t (c .before .before .before .before))
 
@@ -262,7 +274,7 @@ middle-collect-requires t c κs = let act = c .before .before .before .before .b
 
 middle-room-3 : (t : ℕ) (c : middle-lts.After-collect (middle-claims t) (middle-at t) middle.Post middle-Inv-loop middle-μ-loop)
     → let act = c .before .before .before .before .before .before .before in
-    let b = act .before .before .before .before .before .before .before .before .args .b in b + b ≤ length (c .collect .last .0)
+    let b = act .before .before .before .before .before .before .before .args .b in b + b ≤ length (c .collect .last .0)
 middle-room-3 t c = omega (arith, c .collect .kept .0, middle-room-2 t (c .before .before .before .before .before .before .before))
 
 middle-sub-act-5 : (t : ℕ) → middle-lts.Need-sub-act-5 (middle-claims t) (middle-at t) middle.Post middle-Inv-loop middle-μ-loop
@@ -273,7 +285,7 @@ middle-act-requires-2 t c κs =
     let collect = c .before .before .before .before in
     let act = collect .before .before .before .before .before .before .before in
     let at = act .before .before .before .before .loop in
-    let start = act .before .before .before .before .before .before .before .before in
+    let start = act .before .before .before .before .before .before .before in
     let pre = start .pre .1 in let b = start .args .b in let k = at .i + 1 in
     let x = putMid (k * b) (k * b + b - k * b) (at .x) (act .act .last .0) in
     let room = middle-room-3 t collect in
@@ -295,32 +307,35 @@ middle-loop-again t c =
 middle-turn-requires : (t : ℕ) → middle-lts.Need-turn-requires (middle-claims t) (middle-at t) middle.Post middle-Inv-loop middle-μ-loop
 middle-turn-requires t c κs =
     let at = c .before .before .before in
-    let start = at .before .before .before .before in
+    let start = at .before .before .before in
     (omega (arith, at .loop .inv .1 .done .same, start .pre .1 .words, suc-mul (start .args .l) (start .args .b)), omega (arith, middle-room t at))
+
+middle-same-length : (t : ℕ) → middle-lts.Need-same-length (middle-claims t) (middle-at t) middle.Post middle-Inv-loop middle-μ-loop
+middle-same-length t c =
+    let after = c .before .before .before .before in
+    after .turn .kept .0 ∙ after .before .before .before .before .loop .inv .1 .done .same
 
 middle-same-length-2 : (t : ℕ) → middle-lts.Need-same-length-2 (middle-claims t) (middle-at t) middle.Post middle-Inv-loop middle-μ-loop
 middle-same-length-2 t c =
     let after = c .before .before .before .before in
-    after .turn .kept .0 ∙ after .before .before .before .before .loop .inv .1 .done .same
-
-middle-same-length-3 : (t : ℕ) → middle-lts.Need-same-length-3 (middle-claims t) (middle-at t) middle.Post middle-Inv-loop middle-μ-loop
-middle-same-length-3 t c =
-    let after = c .before .before .before .before in
     after .turn .kept .1 .0 ∙ after .before .before .before .before .loop .inv .1 .same
 
-middle-returns-2 : (t : ℕ) → middle-lts.Need-returns-2 (middle-claims t) (middle-at t) middle.Post middle-Inv-loop middle-μ-loop
-middle-returns-2 t c =
+middle-returns : (t : ℕ) → middle-lts.Need-returns (middle-claims t) (middle-at t) middle.Post middle-Inv-loop middle-μ-loop
+middle-returns t c =
     let after = c .before .before .before .before in
     let at = after .before .before .before .before .loop in
-    let start = after .before .before .before .before .before .before .before .before in
+    let start = after .before .before .before .before .before .before .before in
     let e : at .i ≡ start .args .l = omega arith in
-    turning-all (start .pre .1 .some) (start .pre .1 .words) (subst (Turning _ _ _ _ _ _ _ _ _ _) e (at .inv .1)) (after .turn .ensures)
+    turning-all (omega (arith, start .pre .1 .some)) (start .pre .1 .words) (subst (Turning _ _ _ _ _ _ _ _ _ _) e (at .inv .1)) (after .turn .ensures)
 
 pub +act+each+middle-spec : {M : Type 1} → statement M
 +act+each+middle-spec =
     close μ-act μ-each μ-middle
     (λ t. act-lts.spec (act-claims t) (act-at t) act.Post
     (act-returns t)
+    (act-letter-requires t)
+    (λ c. c .before .before .letter .kept .0)
+    (act-returns-2 t)
     (λ c. omega arith)
     (λ c κs. omega arith)
     (λ c. omega arith)
@@ -345,9 +360,9 @@ pub +act+each+middle-spec : {M : Type 1} → statement M
     (λ c. omega arith)
     (λ c. omega arith)
     (act-each-requires-2 t)
-    (act-same-length t)
     (act-same-length-2 t)
-    (act-returns-2 t))
+    (act-same-length-3 t)
+    (act-returns-3 t))
     (λ t. each-lts.spec (each-claims t) (each-at t) each.Post each-Inv-loop each-μ-loop
     (each-loop-holds t)
     (λ c. omega (arith, each-fits t c))
@@ -364,9 +379,6 @@ pub +act+each+middle-spec : {M : Type 1} → statement M
     (λ c. c .before .loop .inv .1)
     (each-returns t))
     (λ t. middle-lts.spec (middle-claims t) (middle-at t) middle.Post middle-Inv-loop middle-μ-loop
-    (middle-exchange-requires t)
-    (λ c. c .before .before .exchange .kept .0)
-    (middle-returns t)
     (middle-loop-holds t)
     (λ c. omega arith)
     (λ c. omega (arith, middle-fits t c))
@@ -397,6 +409,6 @@ pub +act+each+middle-spec : {M : Type 1} → statement M
     (λ c. omega arith)
     (middle-loop-again t)
     (middle-turn-requires t)
+    (middle-same-length t)
     (middle-same-length-2 t)
-    (middle-same-length-3 t)
-    (middle-returns-2 t))
+    (middle-returns t))

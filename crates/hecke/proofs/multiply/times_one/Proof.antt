@@ -17,16 +17,15 @@ shared-slice-read-scale-into-2 c = let first = c .before .before .before .before
 returns : tie.Need-returns
 returns c =
     let finish = c .before .before in
-    let act = finish .before .before .before .before .before .before .before in
-    let second = act .before .before .before .before .before in
+    let letter = finish .before .before .before .before .before in
+    let second = letter .before .before .before .before in
     let first = second .before .before .before .before .before in
     let start = first .before .before .before .before .before .before .before in
-    one-whole (start .args .q) (start .args .r) (act .act .last .1 .0) (start .pre .0) (start .pre .1) (first .scale-into .kept .0) (first .scale-into .ensures)
-    (second .scale-into2 .ensures) (act .act .ensures) (act .act .kept .0 ∙ second .scale-into2 .kept .0) (finish .finish .ensures)
+    one-whole (start .args .q) (start .args .r) (start .pre .0) (start .pre .1) (first .scale-into .kept .0) (first .scale-into .ensures)
+    (second .scale-into2 .ensures) (letter .letter .ensures) (letter .letter .kept .0 ∙ second .scale-into2 .kept .0) (finish .finish .ensures)
 
 pub times-one-spec : {M : Type 1} → statement M
 times-one-spec =
     tie.close
     (tie.spec (λ c. search needs) (λ c. search needs) (λ c. search needs) shared-slice-read-scale-into (λ c κs. search needs)
-    shared-slice-read-scale-into-2 (λ c κs. search needs) (λ c. search needs) (λ c. search needs) (λ c. search needs) (λ c. search needs)
-    (λ c κs. search needs) (λ c κs. search needs) (λ c. search needs) (λ c. search needs) returns)
+    shared-slice-read-scale-into-2 (λ c κs. search needs) (λ c κs. search needs) (λ c κs. search needs) (λ c. search needs) (λ c. search needs) returns)
