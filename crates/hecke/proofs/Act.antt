@@ -23,7 +23,7 @@ module _ (low : ℕ) (x v : List ℕ) (h : low ≤ length x) (e : length v ≡ l
   first-size : length (putMid 0 (low - 0) x v) ≡ length x
   first-size = same-len-mid 0 (low - 0) x v (e ∙ sym (mid-len 0 low x h ∙ omega arith))
 
-  after-first : drop low (putMid 0 (low - 0) x v) ≡ drop low x
+  pub after-first : drop low (putMid 0 (low - 0) x v) ≡ drop low x
   after-first = drop-put 0 low x v (omega arith) h (e ∙ omega arith)
 
 module _ (low high : ℕ) (x v₁ v₂ : List ℕ) (lh : low ≤ high) (hx : high ≤ length x) (e₁ : length v₁ ≡ low) (e₂ : length v₂ ≡ high - low) where

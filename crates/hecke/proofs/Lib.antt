@@ -9,6 +9,7 @@ mod Passed
 mod Pieces
 mod Middle
 mod Act
+mod RankTwo
 mod Letters
 -- the product
 mod Layers

@@ -2,6 +2,7 @@
 -- Passed, Pieces and algebra's Blocks.
 --
 --   onBlock q r m j l k y         block k, which was y, after its step; block 0 is not changed
+--   swapped q r b x              what `exchange` makes of x, two blocks of b words
 --   Turning q r m j l b x₀ x w₀ w i
 --                                 i steps are done: x₀ is now x, and w₀ is now w, whose first words are the sum of the first i parts
 use mathlib.Core.Path.{_≡_, refl, sym, ap, ap₂, _∙_, subst}
@@ -161,8 +162,10 @@ kept-one q r m b j x size =
     let e : 1 * b ≡ b = omega arith in
     acted-none q r m (j - 1) _ ∙ ap (λ (n : ℕ). take b (drop n x)) e ∙ take-all b (drop b x) (rw length-drop (omega arith))
 
-pub exchanged-one : (q r m b j : ℕ) (x : List ℕ) → length x ≡ b + b
-    → scale ℕ words q (drop b x) ++ plus ℕ words (take b x) (scale ℕ words r (drop b x)) ≡ turned q r m b j 1 x
+abbrev pub swapped : (q r b : ℕ) → List ℕ → List ℕ
+swapped q r b x = scale ℕ words q (drop b x) ++ plus ℕ words (take b x) (scale ℕ words r (drop b x))
+
+pub exchanged-one : (q r m b j : ℕ) (x : List ℕ) → length x ≡ b + b → swapped q r b x ≡ turned q r m b j 1 x
 unfolding turned blocks sums block
 exchanged-one q r m b j x size =
     let k = sym (kept-one q r m b j x size) in

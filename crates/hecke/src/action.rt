@@ -79,6 +79,10 @@ pub(crate) fn letter(x: &mut [u64], m: usize, j: usize, q: u64, r: u64)
     requires { ⌜ ActPre m j 1 (now x) [] ⌝ }
     ensures { λ _. ⌜ now (x .exit) ≡ acted q r m j 1 (now (x .entry)) ⌝ }
 {
+    if m == 2 {
+        letter_of_rank_two(x, j, q, r);
+        return;
+    }
     let lower = m - 1;
     let b = crate::size(lower);
     let low = (m - j) * b;
@@ -98,6 +102,20 @@ fn each_letter(x: &mut [u64], m: usize, b: usize, n: usize, j: usize, q: u64, r:
         let end = at + b;
         letter(&mut x[at..end], m, j, q, r);
     }
+}
+
+// x T_j in the place of x, of rank 2.
+fn letter_of_rank_two(x: &mut [u64], j: usize, q: u64, r: u64)
+    requires { ⌜ ActPre 2 j 1 (now x) [] ⌝ }
+    ensures { λ _. ⌜ now (x .exit) ≡ acted q r 2 j 1 (now (x .entry)) ⌝ }
+{
+    if j == 1 {
+        lists::exchange(&mut x[0..2], 1, q, r);
+        lists::exchange(&mut x[2..], 2, q, r);
+        return;
+    }
+    lists::exchange(&mut x[0..4], 2, q, r);
+    lists::exchange(&mut x[4..], 1, q, r);
 }
 
 // The letters act on x one by one.

@@ -1,13 +1,13 @@
 -- The cycle of calls {letter, each_letter}, as {act, each, middle} for l = 1. The measure is twice the rank, and one more for `each_letter`, whose m is
 -- the rank of a block.
-use mathlib.Core.Path.{_≡_, refl, _∙_, subst}
+use mathlib.Core.Path.{_≡_, refl, sym, ap, _∙_, subst}
 use mathlib.Core.List.{[]}
 use Prim.Native.Nat.{ℕ, _+_, _*_, _-_, _≤_, _<_}
 use native.Mathlib.Omega.{arith}
 use lib.ListN.{length}
 use borrow.Fn.Kinds.{In}
 use borrow.Fn.PlainCycle.{Measures, is, falls, and}
-use Rattle.hecke.specs.Steps.{acted}
+use Rattle.hecke.specs.Steps.{acted, ActPre}
 use Rattle.hecke.proofs.Parts.{fits-block, part-size}
 use Rattle.hecke.proofs.Passed.{Passed, passed-none, passed-more, passed-all}
 use Rattle.hecke.proofs.Middle.{exchanged-one}
@@ -18,6 +18,7 @@ use Rattle.hecke.proofs.action.+each_letter+letter.Lts-each_letter as e
 use Rattle.hecke.proofs.action.letter.Reads as letter
 use Rattle.hecke.proofs.action.letter.Kinds as letter-kinds
 use Rattle.hecke.proofs.action.+each_letter+letter.Lts-letter as letter-lts
+use Rattle.hecke.proofs.action.letter_of_rank_two.Reads as rank-two-reads
 use Rattle.hecke.proofs.lists.exchange.Reads as exchange-reads
 use Rattle.hecke.proofs.size.Reads as size-reads
 use Rattle.hecke.proofs.action.+each_letter+letter.{statement}
@@ -94,12 +95,32 @@ each-letter-returns t c =
 -- ---- letter
 
 abbrev letter-claims : ℕ → letter-lts.Claims
-letter-claims t = (size-reads.Asked, size-reads.Learnt, each-letter-below t, each-letter.Post, exchange-reads.Asked, exchange-reads.Learnt)
+letter-claims t = (
+  rank-two-reads.Asked,
+  rank-two-reads.Learnt,
+  size-reads.Asked,
+  size-reads.Learnt,
+  each-letter-below t,
+  each-letter.Post,
+  exchange-reads.Asked,
+  exchange-reads.Learnt,
+)
+
+letter-rank-two-requires : (t : ℕ) → letter-lts.Need-letter-of-rank-two-requires (letter-claims t) (letter-at t) letter.Post
+letter-rank-two-requires t c κs = let start = c .before .before .before in
+    subst (λ (n : ℕ). ActPre n (start .args .j) 1 (start .args .x .now) []) (c .before .if1 .taken) (start .pre .1)
+
+letter-returns : (t : ℕ) → letter-lts.Need-returns (letter-claims t) (letter-at t) letter.Post
+letter-returns t c =
+    let after = c .before .before in
+    let two = after .before .before in
+    let u = two .before .before .args in
+    after .letter-of-rank-two .ensures ∙ ap (λ (n : ℕ). acted (u .q) (u .r) n (u .j) 1 (u .x .now)) (sym (two .if1 .taken))
 
 -- x where it is cut into blocks
 letter-cut : (t : ℕ) (c : letter-lts.After-size (letter-claims t) (letter-at t) letter.Post)
-    → let u = c .before .before .args in let b = c .size .result in Cut (u .m) (u .j) 1 b ((u .m - u .j) * b + b + b) (u .x .now) []
-letter-cut t c = record { pre = c .before .before .pre .1; some = omega arith; size = c .size .ensures; top = omega arith }
+    → let u = c .before .before .before .args in let b = c .size .result in Cut (u .m) (u .j) 1 b ((u .m - u .j) * b + b + b) (u .x .now) []
+letter-cut t c = record { pre = c .before .before .before .pre .1; some = omega arith; size = c .size .ensures; top = omega arith }
 
 letter-each-letter-requires : (t : ℕ) → letter-lts.Need-each-letter-requires (letter-claims t) (letter-at t) letter.Post
 letter-each-letter-requires t c κs = (omega arith, low-pre (letter-cut t (c .before)))
@@ -133,20 +154,20 @@ letter-each-letter-requires-2 t c κs =
     let cut = letter-cut t (low .before .before) in
     (omega arith, high-pre cut (low .each-letter .last .0) (low .each-letter .kept .0) (mid .exchange .last .0) (mid .exchange .kept .0) [] refl)
 
-letter-same-length : (t : ℕ) → letter-lts.Need-same-length (letter-claims t) (letter-at t) letter.Post
-letter-same-length t c =
+letter-same-length-2 : (t : ℕ) → letter-lts.Need-same-length-2 (letter-claims t) (letter-at t) letter.Post
+letter-same-length-2 t c =
     let top = c .before .before in
     let mid = top .before .before .before .before in
     let low = mid .before .before .before .before in
     act-length (letter-cut t (low .before .before)) (low .each-letter .last .0) (low .each-letter .kept .0) (mid .exchange .last .0) (mid .exchange .kept .0)
     (top .each-letter2 .last .0) (top .each-letter2 .kept .0)
 
-letter-returns : (t : ℕ) → letter-lts.Need-returns (letter-claims t) (letter-at t) letter.Post
-letter-returns t c =
+letter-returns-2 : (t : ℕ) → letter-lts.Need-returns-2 (letter-claims t) (letter-at t) letter.Post
+letter-returns-2 t c =
     let top = c .before .before in
     let mid = top .before .before .before .before in
     let low = mid .before .before .before .before in
-    let start = low .before .before .before .before in let u = start .args in
+    let start = low .before .before .before .before .before in let u = start .args in
     let cut = letter-cut t (low .before .before) in
     let turn = mid .exchange .ensures ∙ exchanged-one (u .q) (u .r) (u .m - 1) _ (u .j) _ (letter-two-blocks t (mid .before) (start .κs)) in
     act-whole cut (low .each-letter .last .0) (low .each-letter .kept .0) (mid .exchange .last .0) (mid .exchange .kept .0)
@@ -170,6 +191,9 @@ pub +each-letter+letter-spec : {M : Type 1} → statement M
     (λ c. c .before .loop .inv .1 .same)
     (each-letter-returns t))
     (λ t. letter-lts.spec (letter-claims t) (letter-at t) letter.Post
+    (letter-rank-two-requires t)
+    (λ c. c .before .before .letter-of-rank-two .kept .0)
+    (letter-returns t)
     (λ c. omega arith)
     (λ c κs. omega arith)
     (λ c. omega arith)
@@ -193,5 +217,5 @@ pub +each-letter+letter-spec : {M : Type 1} → statement M
     (λ c. omega arith)
     (λ c. omega arith)
     (letter-each-letter-requires-2 t)
-    (letter-same-length t)
-    (letter-returns t))
+    (letter-same-length-2 t)
+    (letter-returns-2 t))

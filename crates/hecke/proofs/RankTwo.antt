@@ -1,0 +1,79 @@
+-- One letter on an element of rank 2 is two exchanges, one of two single words and one of two blocks of 2 words. Rests on Parts, Pieces, Middle and Act.
+use mathlib.Core.Path.{_≡_, refl, sym, ap, _∙_}
+use mathlib.Core.List.{List, [], _++_, append-nil}
+use Prim.Native.Nat.{ℕ, _-_, _≤_}
+use native.Mathlib.Omega.{arith}
+use lib.ListN.{length, take, drop, length-drop}
+use lib.Seq.{take-all, length-take-le}
+use borrow.Rule.Slice.PartMut.{putMid, same-len-mid}
+use Rattle.algebra.specs.Numbers.{factorial}
+use Rattle.algebra.specs.Blocks.{block, blocks}
+use Rattle.hecke.specs.Steps.{acted, turned, ActPre}
+use Rattle.hecke.proofs.Parts.{whole-block, front-put, rest-put}
+use Rattle.hecke.proofs.Pieces.{block-take, turned-cong, act-pieces}
+use Rattle.hecke.proofs.Middle.{swapped, exchanged-one}
+use Rattle.hecke.proofs.Act.{after-first}
+
+pub rank-two-size : {j : ℕ} {x : List ℕ} → ActPre 2 j 1 x [] → length x ≡ 6
+unfolding factorial
+rank-two-size p = p .words
+
+-- ---- two parts in a row, of which the first came back as v₁
+
+module _ (at : ℕ) (x v₁ : List ℕ) (h : at ≤ length x) (s₁ : length v₁ ≡ length (take (at - 0) x)) where
+  abbrev x₁ : List ℕ
+  x₁ = putMid 0 (at - 0) x v₁
+
+  pub same-size : length x₁ ≡ length x
+  same-size = same-len-mid 0 (at - 0) x v₁ s₁
+
+  second-part : take (length x₁ - at) (drop at x₁) ≡ drop at x
+  second-part =
+      take-all (length x₁ - at) (drop at x₁) (rw length-drop (omega arith))
+      ∙ after-first at x v₁ h (s₁ ∙ length-take-le (at - 0) x (omega arith) ∙ omega arith)
+
+  pub second-size : length (take (length x₁ - at) (drop at x₁)) ≡ length x - at
+  second-size = ap length second-part ∙ length-drop at x
+
+  both-parts : (v₂ : List ℕ) → putMid at (length x₁ - at) x₁ v₂ ≡ v₁ ++ v₂
+  both-parts v₂ = rest-put at x₁ v₂ ∙ ap (λ (p : List ℕ). p ++ v₂) (front-put at x v₁ _ refl h s₁)
+
+module _ (q r : ℕ) where
+  -- ---- rank 1
+
+  one-exchange : (y : List ℕ) → length y ≡ 2 → swapped q r 1 y ≡ acted q r 1 1 1 y
+  unfolding blocks factorial
+  one-exchange y e =
+      exchanged-one q r 0 1 1 y e ∙ sym (act-pieces q r 1 1 1 1 y (omega arith) (omega arith) refl ∙ append-nil (turned q r 0 1 1 1 y))
+
+  -- ---- rank 2
+
+  module _ (x : List ℕ) (size : length x ≡ 6) where
+    two-exchanges-1 : swapped q r 1 (take 2 x) ++ swapped q r 2 (drop 2 x) ≡ acted q r 2 1 1 x
+    unfolding block blocks factorial
+    two-exchanges-1 =
+        (λ i. one-exchange (take 2 x) (length-take-le 2 x (omega arith)) i ++ exchanged-one q r 1 2 1 (drop 2 x) (length-drop 2 x ∙ omega arith) i)
+        ∙ sym (act-pieces q r 2 1 1 2 x (omega arith) (omega arith) refl
+        ∙ ap (λ (y : List ℕ). acted q r 1 1 1 (take 2 x) ++ y) (append-nil (turned q r 1 2 1 1 (drop 2 x))))
+
+    two-exchanges-2 : swapped q r 2 (take 4 x) ++ swapped q r 1 (drop 4 x) ≡ acted q r 2 2 1 x
+    unfolding blocks factorial
+    two-exchanges-2 =
+        let rest : length (drop 4 x) ≡ 2 = length-drop 4 x ∙ omega arith in
+        let low : swapped q r 2 (take 4 x) ≡ turned q r 1 2 2 1 x =
+        exchanged-one q r 1 2 2 (take 4 x) (length-take-le 4 x (omega arith))
+        ∙ turned-cong q r 1 2 2 1 (take 4 x) x (omega arith) (λ i h. block-take 2 i 4 x (omega arith) (omega arith)) in
+        (λ i. low i ++ (one-exchange (drop 4 x) rest ∙ ap (acted q r 1 1 1) (sym (whole-block 2 (drop 4 x) rest))) i)
+        ∙ sym (act-pieces q r 2 2 1 2 x (omega arith) (omega arith) refl)
+
+    pub letter-1 : {v₁ v₂ : List ℕ} (s₁ : length v₁ ≡ length (take (2 - 0) x)) → v₁ ≡ swapped q r 1 (take (2 - 0) x)
+        → v₂ ≡ swapped q r 2 (take (length (putMid 0 (2 - 0) x v₁) - 2) (drop 2 (putMid 0 (2 - 0) x v₁)))
+        → putMid 2 (length (putMid 0 (2 - 0) x v₁) - 2) (putMid 0 (2 - 0) x v₁) v₂ ≡ acted q r 2 1 1 x
+    letter-1 {v₁} {v₂} s₁ e₁ e₂ =
+        both-parts 2 x v₁ (omega arith) s₁ v₂ ∙ (λ i. e₁ i ++ (e₂ ∙ ap (swapped q r 2) (second-part 2 x v₁ (omega arith) s₁)) i) ∙ two-exchanges-1
+
+    pub letter-2 : {v₁ v₂ : List ℕ} (s₁ : length v₁ ≡ length (take (4 - 0) x)) → v₁ ≡ swapped q r 2 (take (4 - 0) x)
+        → v₂ ≡ swapped q r 1 (take (length (putMid 0 (4 - 0) x v₁) - 4) (drop 4 (putMid 0 (4 - 0) x v₁)))
+        → putMid 4 (length (putMid 0 (4 - 0) x v₁) - 4) (putMid 0 (4 - 0) x v₁) v₂ ≡ acted q r 2 2 1 x
+    letter-2 {v₁} {v₂} s₁ e₁ e₂ =
+        both-parts 4 x v₁ (omega arith) s₁ v₂ ∙ (λ i. e₁ i ++ (e₂ ∙ ap (swapped q r 1) (second-part 4 x v₁ (omega arith) s₁)) i) ∙ two-exchanges-2
