@@ -9,7 +9,8 @@
  * call.
  *
  * The report is lent by the caller and may be empty. A call writes at its front, as far as it has room,
- *     report[0]  the place of the refusal; 0 where document 01 names none, and where nothing is refused
+ *     report[0]  the place of the refusal: of an image, an entry or a letter its index, from 0, and of a command its offset;
+ *                0 where document 01 names no place, and where nothing is refused
  *     report[1]  the count: ring operations of a call on elements; the length, the letters or the descents that a call on
  *                towers answers; else, and for a refusal, 0
  * and hecke_tower_descents also report[2], the mask. Words after these stay as they were.

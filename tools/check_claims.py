@@ -21,7 +21,7 @@ DECLARED = {
 # where the names of a column are declared; the code, too, holds definitions, of structs
 COLUMNS = {
     'rule': r'',
-    'reference test': r'(?:reference|tools|rust|tests)/',
+    'test': r'(?:reference|tools|rust|tests)/',
     'definition': r'crates/\w+/(?:specs|src)/',
     'contract': r'crates/\w+/src/',
     'theorem': r'crates/\w+/proofs/',

@@ -1,10 +1,12 @@
 -- The seven calls on permutations and towers, for C and Rust: for all inputs, the returned number, the lent buffer and the report.
 --
+--   refusalTold why                                  what the caller is told of a refusal of perms
 --   verdictTold v, countedTold n, generatorsTold g   what the caller is told of an answer of perms; of generators, the mask too
 --   verdictCall o, countedCall o                     what a call of perms gives that ends as o
 --   towerOfImages ..                                 the call hecke_tower_of_images, and so the others
 use mathlib.Core.List.{List, [], _∷_}
 use Prim.Native.Nat.{ℕ}
+use Rattle.perms.specs.declared.Refusal.{Refusal}
 use Rattle.perms.specs.declared.Verdict.{Verdict}
 use Rattle.perms.specs.declared.Verdict.the-variants as Vs
 use Rattle.perms.specs.declared.Counted.{Counted}
@@ -16,13 +18,16 @@ use Rattle.hecke_c.specs.Report.{fill, Told, told, Returned, returned}
 
 -- ---- what the caller is told
 
+abbrev pub refusalTold : Refusal → List ℕ → Told
+refusalTold why report = told (refusalNumber why) (refusalPlace why) 0 report
+
 unfoldable pub verdictTold : Verdict → List ℕ → Told
 verdictTold Vs.Accepted report = told 0 0 0 report
-verdictTold (Vs.Refused why) report = told (refusalNumber why) (refusalPlace why) 0 report
+verdictTold (Vs.Refused why) report = refusalTold why report
 
 unfoldable pub countedTold : Counted → List ℕ → Told
 countedTold (C.Count n) report = told 0 0 n report
-countedTold (C.Refused why) report = told (refusalNumber why) (refusalPlace why) 0 report
+countedTold (C.Refused why) report = refusalTold why report
 
 unfoldable pub generatorsTold : Generators → List ℕ → Told
 generatorsTold (G.Set mask count) report = record { number = 0; report = fill (0 ∷ count ∷ mask ∷ []) report }

@@ -32,6 +32,13 @@ fn tell_mask(report: &mut [u64], place: u64, count: u64, mask: u64)
     put(report, 2, mask);
 }
 
+fn tower_refusal(why: perms::Refusal, report: &mut [u64]) -> u8
+    ensures { λ n. ⌜ Towers.refusalTold why (now (report .entry)) ≡ record { number = n; report = now (report .exit) } ⌝ }
+{
+    tell(report, perms::place_of(why) as u64, 0);
+    perms::number_of(why)
+}
+
 pub(crate) fn tower_verdict(verdict: perms::Verdict, report: &mut [u64]) -> u8
     ensures { λ n. ⌜ Towers.verdictTold verdict (now (report .entry)) ≡ record { number = n; report = now (report .exit) } ⌝ }
 {
@@ -40,10 +47,7 @@ pub(crate) fn tower_verdict(verdict: perms::Verdict, report: &mut [u64]) -> u8
             tell(report, 0, 0);
             0
         }
-        perms::Verdict::Refused(why) => {
-            tell(report, perms::place_of(why) as u64, 0);
-            perms::number_of(why)
-        }
+        perms::Verdict::Refused(why) => tower_refusal(why, report),
     }
 }
 
@@ -55,10 +59,7 @@ pub(crate) fn counted(counted: perms::Counted, report: &mut [u64]) -> u8
             tell(report, 0, n as u64);
             0
         }
-        perms::Counted::Refused(why) => {
-            tell(report, perms::place_of(why) as u64, 0);
-            perms::number_of(why)
-        }
+        perms::Counted::Refused(why) => tower_refusal(why, report),
     }
 }
 

@@ -12,14 +12,11 @@ returns c = rw (c .before .before .before .before .enum-told .given .1) (told-by
 
 returns-2 : tie.Need-returns-2
 unfolding verdictTold
-returns-2 c =
-    let put = c .before .before .before in
-    let why = put .before .before .before .before in
-    rw (why .verdict .given .1) (told-by (c .number-of .ensures) (rw (put .before .place-of .ensures) at (put .tell2 .ensures)))
+returns-2 c = let told = c .before .before in rw (told .before .before .before .verdict .given .1) (told .tower-refusal .ensures)
 
 pub tower-verdict-spec : {M : Type 1} → statement M
 tower-verdict-spec =
     tie.close
     (tie.spec
-    (λ c. search needs) (λ c κs. search needs) (λ c. search needs) (λ c κs. search needs) (λ c κs. search needs) (λ c κs. search needs)
-    (λ c. search needs) returns (λ c. search needs) returns-2)
+    (λ c. search needs) (λ c κs. search needs) (λ c. search needs) (λ c κs. search needs) (λ c. search needs) returns (λ c. search needs)
+    returns-2)
