@@ -1,7 +1,7 @@
--- The three parts of x that `act` passes to its calls: what the calls require, and x as a whole when the parts are back. Rests on Parts, Pieces and
--- algebra's Blocks.
+-- The three parts of x that `act` and `letter` pass to their calls: what the calls require, and x as a whole when the parts are back. Rests on Parts,
+-- Pieces and algebra's Blocks.
 --
---   Cut m j l b high x w   what `act` has where it cuts x into blocks of b words, the third part from `high` on; w is the work slice
+--   Cut m j l b high x w   what they have where they cut x into blocks of b words, the third part from `high` on; w is the work slice, for a letter []
 use mathlib.Core.Path.{_≡_, sym, ap, _∙_}
 use mathlib.Core.List.{List, [], _++_, append-assoc}
 use Prim.Native.Nat.{ℕ, suc, _+_, _*_, _-_, _≤_}

@@ -1,8 +1,8 @@
--- The loop of `middle`: each block after the first is lent twice in one step, and between the two its part is added to the sum. Rests on Parts, Sums,
--- Passed, Pieces and algebra's Blocks.
+-- The loop of `middle`: each block after the first is lent twice in one step, and between the two its part is added to the sum; for one part, the
+-- exchange of two blocks. Rests on Parts, Sums, Passed, Pieces and algebra's Blocks.
 --
 --   onBlock q r m j l k y         block k, which was y, after its step; block 0 is not changed
---   swapped q r b x              what `exchange` makes of x, two blocks of b words
+--   swapped q r b x               what `exchange` makes of x, two blocks of b words
 --   Turning q r m j l b x₀ x w₀ w i
 --                                 i steps are done: x₀ is now x, and w₀ is now w, whose first words are the sum of the first i parts
 use mathlib.Core.Path.{_≡_, refl, sym, ap, ap₂, _∙_, subst}

@@ -1,6 +1,5 @@
 -- For either letter the two exchanges are the parts of the level that are not empty.
 use mathlib.Core.Path.{_≡_, sym, ap, _∙_}
-use Prim.Native.Nat.{ℕ}
 use native.Mathlib.Omega.{arith}
 use borrow.Author.Needs.{needs}
 use Rattle.hecke.specs.Steps.{acted}
