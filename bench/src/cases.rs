@@ -3,6 +3,7 @@
 use crate::clock::{agree, race, Times, INPUTS};
 use crate::nested::FACTORIAL;
 use crate::{lists, nested, sheet, towers};
+use plain::sheet::{Action, Product};
 use std::path::Path;
 use std::process::Command;
 
@@ -13,8 +14,6 @@ pub struct Row {
     pub times: Vec<Times>,
 }
 
-type Product = fn(usize, u64, &[u64], &[u64], &mut [u64], &mut [u64]);
-type Action = fn(usize, u64, &[u8], &mut [u64]);
 type Conversion = fn(&[u8], &mut [u8]);
 
 /// Random words, the same every time (xorshift).

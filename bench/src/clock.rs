@@ -39,11 +39,15 @@ fn batch<O>(run: &mut impl FnMut(usize, &mut O), first: usize, calls: usize, out
     start.elapsed().as_nanos() as f64 / calls as f64
 }
 
-/// Times the contenders in turn, round by round: batches of 0.2 ms or more, for 3 seconds and at least 15 rounds.
+/// Times the contenders in turn, round by round, for 3 seconds and at least 15 rounds. The calls of a batch take the first
+/// contender 0.2 ms or more.
 pub fn race<O: Clone, F: FnMut(usize, &mut O), const N: usize>(contenders: &mut [F; N], blank: &O) -> [Times; N] {
     let mut output = blank.clone();
-    let once = contenders.each_mut().map(|run| batch(run, 0, 1, &mut output));
-    let calls = (2e5 / once[0]).ceil() as usize;
+    let mut calls = 1;
+    while calls as f64 * batch(&mut contenders[0], 0, calls, &mut output) < 2e5 {
+        calls *= 2;
+    }
+    let once = contenders.each_mut().map(|run| batch(run, 0, calls, &mut output));
     let round = once.iter().sum::<f64>() * calls as f64;
     let rounds = ((3e9 / round) as usize).max(15);
     let mut times = [const { Vec::new() }; N];

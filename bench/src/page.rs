@@ -9,7 +9,7 @@ const HEAD: &str = "\
 # Benchmarks
 
 The library's calls beside plain Rust, all in one run on one machine. `cargo run --release --offline -p bench -- --write` makes
-this page; without `--write` it prints the table alone, and with `--check` it compares all results and times nothing.
+this page; without `--write` it prints the two tables, and with `--check` it compares all results and times nothing.
 ";
 
 const TERMS: &str = "
@@ -18,18 +18,34 @@ const TERMS: &str = "
 - **library**: the call through the wrapper `rust/hecke`, with all its checks. A sheet goes through the program `run_sheet`.
 - **(a)**: the same nested method in plain Rust, `bench/src/nested.rs`, with the machine's own wrapping multiplication. For
   towers, plain Rust with the same checks, where larger images are counted in a mask of those seen, `bench/src/towers.rs`. For
-  sheets, a runner by the nested method, `bench/src/sheet.rs`.
-- **(b)**: formula 4.4 on plain lists, `bench/src/lists.rs`: each T_v acts through its whole word, as source document 000 counts.
-  The places of w and ws, and the words, are in tables made before the clock starts; `rust/plain`, written to be read, makes
-  words and lists anew for each v and takes about twice as long. For sheets (b) is `rust/plain` as it is, its tables timed.
-- **(c)**: formula 4.4 with h T_v kept for each beginning of a word, so that each T_v costs one letter: (7/2) M² operations, and
-  m (m + 1) / 2 + 1 lists of M words beside the scratch.
+  sheets, the runner of `rust/plain` by this method.
+- **(b)**: formula 4.4 on plain lists, `bench/src/lists.rs`: each T_v acts through its whole word, as source document 000
+  counts. The places of w and ws, and the words, are in tables made before the clock starts; `rust/plain`, written to be read,
+  makes words and lists anew for each v. For sheets (b) is `rust/plain` as it is, its tables timed.
+- **(c)**: formula 4.4 with h T_v kept for each beginning of a word, so that each T_v costs one letter: (7/2) M² operations,
+  and m (m + 1) / 2 + 1 lists of M words beside the scratch.
 
 All results, and the scratch after a product, are compared before the clock starts. The contenders take turns, round by round,
-on the same of eight random inputs; a time is that of one call, the least over all rounds with the median in brackets. Result
-slices hold what the call before left: nothing is cleared for a call. Every product clears the first (m + 6) M words of its
-scratch at its end, as document 01 asks, and this is timed. A word's element is copied from the input first, which is timed too.
-A sheet is one process: its start and both pipes are timed. Ratios are those of the least times.
+on the same of eight random inputs; a time is the mean over a batch of calls, the least over all rounds with the median in
+brackets. Result slices hold what the call before left: nothing is cleared for a call. Every product clears the first (m + 6) M
+words of its scratch at its end, as document 01 asks, and this is timed. A word's element is copied from the input first, which
+is timed too. A sheet is one process: its start and both pipes are timed. Ratios are those of the least times.
+
+## What the inner loops compile to
+
+Read off the archive, which is for any x86-64 processor:
+
+- No loop has a bounds check, and `ring::mul`, written by halves of 32 bits, is one multiplication instruction.
+- One letter at rank 2, on which most of the recursion ends, is straight code of six multiplications and three additions. On
+  larger blocks the loop has two multiplications and one addition for each pair of words, and no call.
+- The sum of the parts and the shift of blocks go up through their slices and become vector code, two words at a time, in
+  which a product of words is three products of 32 bits. Sums of elements are vector code too. Scaling goes down and takes one
+  multiplication a word.
+- The check of an image list and the making of a tower have a shift, a test or an addition for each image; the set bits are
+  counted by shifts, masks and a multiplication, since not every such processor has an instruction for it.
+- The images of a tower are made by vector code, 16 bytes at a time.
+- What a call costs beside plain Rust is its frame: slices pass through memory, and the size of a block is a jump at each
+  level.
 ";
 
 fn time(times: Option<&Times>) -> String {

@@ -1,4 +1,4 @@
--- Words at the front of a report, one store after another.
+-- Words at the front of a report, one store after another. Rests on the definitions alone.
 use mathlib.Core.Path.{_≡_, refl, ap, _∙_}
 use mathlib.Core.List.{List, [], _∷_}
 use Prim.Native.Nat.{ℕ, zero, suc, _≤_}

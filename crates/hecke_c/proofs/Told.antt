@@ -1,4 +1,4 @@
--- What a caller is told, and what a call leaves, from the parts that make it.
+-- What a caller is told, and what a call leaves, from the parts that make it. Rests on the definitions alone.
 use mathlib.Core.Path.{_≡_, sym, ap, _∙_}
 use mathlib.Core.List.{List}
 use Prim.Native.Nat.{ℕ}

@@ -188,8 +188,8 @@ pub fn act_word(m: usize, q: u64, word: &[u8], element: &mut [u64]) -> Result<u6
     .map(|report| report.count)
 }
 
-/// Writes the product of two elements of rank m, and answers the count. The scratch has (m + 6) M words or more, of which so
-/// many are zero afterwards.
+/// Writes the product of two elements of rank m, and answers the count. The scratch has (m + 6) M words or more; the first
+/// (m + 6) M of them are zero afterwards.
 ///
 /// ```
 /// let (mut product, mut scratch) = ([0; 2], [0; 14]);

@@ -2,6 +2,7 @@
 
 use crate::element::{size, Group};
 use crate::{count, refuse, Refusal};
+use std::fmt::Write;
 
 /// A command with its operands, in document 01's order.
 #[derive(Clone, Copy, Debug, PartialEq, Eq)]
@@ -111,19 +112,41 @@ pub fn check(sheet: &[u8]) -> Result<(), Refusal> {
     commands(sheet).map(|_| ())
 }
 
-/// The state of a run: rank, q, the registers of M words each, the ring operations so far, and the text so far.
+/// Writes the product of two elements of rank m at q, by way of a scratch of (m + 6) M words.
+pub type Product = fn(m: usize, q: u64, left: &[u64], right: &[u64], result: &mut [u64], scratch: &mut [u64]);
+
+/// Changes an element of rank m at q by a word of generators, left to right.
+pub type Action = fn(m: usize, q: u64, word: &[u8], element: &mut [u64]);
+
+/// How a run multiplies.
+#[derive(Clone, Copy)]
+pub struct Method {
+    pub product: Product,
+    pub act: Action,
+}
+
+/// The plain-list method.
+const LISTS: Method = Method {
+    product: |m, q, left, right, result, _| result.copy_from_slice(&Group::of_rank(m).times(q, left, right)),
+    act: |m, q, word, element| element.copy_from_slice(&Group::of_rank(m).act(q, element, word)),
+};
+
+/// The state of a run: method, rank, q, registers of M words each, scratch, the ring operations so far, and the text so far.
 struct Run {
+    method: Method,
     m: usize,
     q: u64,
     registers: [Vec<u64>; 4],
+    scratch: Vec<u64>,
     count: u64,
     text: String,
 }
 
 impl Run {
-    fn begin(m: usize, q: u64) -> Run {
+    fn begin(method: Method, m: usize, q: u64) -> Run {
         let registers = [(); 4].map(|_| vec![0; size(m)]);
-        Run { m, q, registers, count: 0, text: format!("H {m} {q}\n") }
+        let scratch = vec![0; (m + 6) * size(m)];
+        Run { method, m, q, registers, scratch, count: 0, text: format!("H {m} {q}\n") }
     }
 
     fn obey(&mut self, command: Command) {
@@ -134,9 +157,14 @@ impl Run {
                 self.registers[r][0] = 1;
             }
             Command::Coefficient { r, i, v } => self.registers[r][i] = v,
-            Command::Generator { r, i } => self.write(r, self.group().act(self.q, &self.registers[r], &[i]), 3 * size / 2),
+            Command::Generator { r, i } => {
+                (self.method.act)(self.m, self.q, &[i], &mut self.registers[r]);
+                self.count += 3 * size / 2;
+            }
             Command::Product { d, a, b } => {
-                let words = self.group().times(self.q, &self.registers[a], &self.registers[b]);
+                let mut words = vec![0; size as usize];
+                let (left, right) = (&self.registers[a], &self.registers[b]);
+                (self.method.product)(self.m, self.q, left, right, &mut words, &mut self.scratch);
                 self.write(d, words, count::of_product(self.m));
             }
             Command::Sum { d, a, b } => self.write(d, self.pairs(a, b).map(|(x, y)| x.wrapping_add(y)).collect(), size),
@@ -147,10 +175,6 @@ impl Run {
             Command::End => self.text += &format!("N {}\n", self.count),
             Command::Begin { .. } => {}
         }
-    }
-
-    fn group(&self) -> &'static Group {
-        Group::of_rank(self.m)
     }
 
     fn write(&mut self, r: usize, words: Vec<u64>, count: u64) {
@@ -166,13 +190,13 @@ impl Run {
     fn show(&mut self, r: usize) {
         self.text += &format!("R {r}\n");
         for (index, value) in self.registers[r].iter().enumerate().filter(|(_, &value)| value != 0) {
-            self.text += &format!("{index} {value}\n");
+            writeln!(self.text, "{index} {value}").unwrap();
         }
     }
 
     /// The sum over w of q to the power ℓ(w) times a_w times b_w.
     fn pairing(&self, a: usize, b: usize) -> u64 {
-        let terms = self.pairs(a, b).zip(&self.group().lengths);
+        let terms = self.pairs(a, b).zip(&Group::of_rank(self.m).lengths);
         terms.fold(0, |sum: u64, ((x, y), &length)| {
             sum.wrapping_add(self.q.wrapping_pow(length as u32).wrapping_mul(x).wrapping_mul(y))
         })
@@ -181,9 +205,14 @@ impl Run {
 
 /// What the program prints for a sheet.
 pub fn printed(sheet: &[u8]) -> Vec<u8> {
+    printed_by(LISTS, sheet)
+}
+
+/// What the program prints for a sheet, by a given method.
+pub fn printed_by(method: Method, sheet: &[u8]) -> Vec<u8> {
     let text = match commands(sheet).as_deref() {
         Ok([Command::Begin { m, q }, rest @ ..]) => {
-            let mut run = Run::begin(*m, *q);
+            let mut run = Run::begin(method, *m, *q);
             rest.iter().for_each(|&command| run.obey(command));
             run.text
         }
