@@ -9,7 +9,7 @@ mod Passed
 mod Pieces
 mod Middle
 mod Act
-mod RankTwo
+mod LowRanks
 mod Letters
 -- the product
 mod Layers

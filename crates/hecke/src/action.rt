@@ -83,6 +83,10 @@ pub(crate) fn letter(x: &mut [u64], m: usize, j: usize, q: u64, r: u64)
         letter_of_rank_two(x, j, q, r);
         return;
     }
+    if m == 1 {
+        lists::exchange(x, 1, q, r);
+        return;
+    }
     let lower = m - 1;
     let b = crate::size(lower);
     let low = (m - j) * b;

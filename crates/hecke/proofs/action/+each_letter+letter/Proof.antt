@@ -11,6 +11,7 @@ use Rattle.hecke.specs.Steps.{acted, ActPre}
 use Rattle.hecke.proofs.Parts.{fits-block, part-size}
 use Rattle.hecke.proofs.Passed.{Passed, passed-none, passed-more, passed-all}
 use Rattle.hecke.proofs.Middle.{exchanged-one}
+use Rattle.hecke.proofs.LowRanks.{rank-one-size, letter-rank-one}
 use Rattle.hecke.proofs.Act.{Cut, high-within, low-pre, middle-end, middle-size, high-end, high-pre, act-length, act-whole}
 use Rattle.hecke.proofs.action.each_letter.Reads as each-letter
 use Rattle.hecke.proofs.action.each_letter.Kinds as each-letter-kinds
@@ -98,12 +99,12 @@ abbrev letter-claims : ℕ → letter-lts.Claims
 letter-claims t = (
   rank-two-reads.Asked,
   rank-two-reads.Learnt,
+  exchange-reads.Asked,
+  exchange-reads.Learnt,
   size-reads.Asked,
   size-reads.Learnt,
   each-letter-below t,
   each-letter.Post,
-  exchange-reads.Asked,
-  exchange-reads.Learnt,
 )
 
 letter-rank-two-requires : (t : ℕ) → letter-lts.Need-letter-of-rank-two-requires (letter-claims t) (letter-at t) letter.Post
@@ -117,10 +118,20 @@ letter-returns t c =
     let u = two .before .before .args in
     after .letter-of-rank-two .ensures ∙ ap (λ (n : ℕ). acted (u .q) (u .r) n (u .j) 1 (u .x .now)) (sym (two .if1 .taken))
 
+letter-exchange-requires : (t : ℕ) → letter-lts.Need-exchange-requires (letter-claims t) (letter-at t) letter.Post
+letter-exchange-requires t c κs = let test = c .before in rank-one-size (test .if2 .taken) (test .before .before .before .pre .1)
+
+letter-returns-2 : (t : ℕ) → letter-lts.Need-returns-2 (letter-claims t) (letter-at t) letter.Post
+letter-returns-2 t c =
+    let after = c .before .before in
+    let test = after .before .before in
+    let start = test .before .before .before in
+    letter-rank-one (start .args .q) (start .args .r) (test .if2 .taken) (start .pre .1) (after .exchange .ensures)
+
 -- x where it is cut into blocks
 letter-cut : (t : ℕ) (c : letter-lts.After-size (letter-claims t) (letter-at t) letter.Post)
-    → let u = c .before .before .before .args in let b = c .size .result in Cut (u .m) (u .j) 1 b ((u .m - u .j) * b + b + b) (u .x .now) []
-letter-cut t c = record { pre = c .before .before .before .pre .1; some = omega arith; size = c .size .ensures; top = omega arith }
+    → let u = c .before .before .before .before .args in let b = c .size .result in Cut (u .m) (u .j) 1 b ((u .m - u .j) * b + b + b) (u .x .now) []
+letter-cut t c = record { pre = c .before .before .before .before .pre .1; some = omega arith; size = c .size .ensures; top = omega arith }
 
 letter-each-letter-requires : (t : ℕ) → letter-lts.Need-each-letter-requires (letter-claims t) (letter-at t) letter.Post
 letter-each-letter-requires t c κs = (omega arith, low-pre (letter-cut t (c .before)))
@@ -131,7 +142,7 @@ letter-part-exchange-end t c =
     middle-end (letter-cut t (low .before .before)) (low .each-letter .last .0) (low .each-letter .kept .0)
 
 -- the two blocks that `exchange` gets, of b words each
-letter-two-blocks : (t : ℕ) → letter-lts.Need-exchange-requires (letter-claims t) (letter-at t) letter.Post
+letter-two-blocks : (t : ℕ) → letter-lts.Need-exchange-requires-2 (letter-claims t) (letter-at t) letter.Post
 letter-two-blocks t c κs =
     let low = c .before .before .before in
     middle-size (letter-cut t (low .before .before)) (low .each-letter .last .0) (low .each-letter .kept .0) ∙ omega arith
@@ -145,32 +156,32 @@ letter-sub-each-letter-3 : (t : ℕ) → letter-lts.Need-sub-each-letter-3 (lett
 letter-sub-each-letter-3 t c =
     let mid = c .before .before in
     let low = mid .before .before .before .before in
-    high-end (letter-cut t (low .before .before)) (low .each-letter .last .0) (low .each-letter .kept .0) (mid .exchange .last .0) (mid .exchange .kept .0)
+    high-end (letter-cut t (low .before .before)) (low .each-letter .last .0) (low .each-letter .kept .0) (mid .exchange2 .last .0) (mid .exchange2 .kept .0)
 
 letter-each-letter-requires-2 : (t : ℕ) → letter-lts.Need-each-letter-requires-2 (letter-claims t) (letter-at t) letter.Post
 letter-each-letter-requires-2 t c κs =
     let mid = c .before .before .before in
     let low = mid .before .before .before .before in
     let cut = letter-cut t (low .before .before) in
-    (omega arith, high-pre cut (low .each-letter .last .0) (low .each-letter .kept .0) (mid .exchange .last .0) (mid .exchange .kept .0) [] refl)
+    (omega arith, high-pre cut (low .each-letter .last .0) (low .each-letter .kept .0) (mid .exchange2 .last .0) (mid .exchange2 .kept .0) [] refl)
 
-letter-same-length-2 : (t : ℕ) → letter-lts.Need-same-length-2 (letter-claims t) (letter-at t) letter.Post
-letter-same-length-2 t c =
+letter-same-length-3 : (t : ℕ) → letter-lts.Need-same-length-3 (letter-claims t) (letter-at t) letter.Post
+letter-same-length-3 t c =
     let top = c .before .before in
     let mid = top .before .before .before .before in
     let low = mid .before .before .before .before in
-    act-length (letter-cut t (low .before .before)) (low .each-letter .last .0) (low .each-letter .kept .0) (mid .exchange .last .0) (mid .exchange .kept .0)
+    act-length (letter-cut t (low .before .before)) (low .each-letter .last .0) (low .each-letter .kept .0) (mid .exchange2 .last .0) (mid .exchange2 .kept .0)
     (top .each-letter2 .last .0) (top .each-letter2 .kept .0)
 
-letter-returns-2 : (t : ℕ) → letter-lts.Need-returns-2 (letter-claims t) (letter-at t) letter.Post
-letter-returns-2 t c =
+letter-returns-3 : (t : ℕ) → letter-lts.Need-returns-3 (letter-claims t) (letter-at t) letter.Post
+letter-returns-3 t c =
     let top = c .before .before in
     let mid = top .before .before .before .before in
     let low = mid .before .before .before .before in
-    let start = low .before .before .before .before .before in let u = start .args in
+    let start = low .before .before .before .before .before .before in let u = start .args in
     let cut = letter-cut t (low .before .before) in
-    let turn = mid .exchange .ensures ∙ exchanged-one (u .q) (u .r) (u .m - 1) _ (u .j) _ (letter-two-blocks t (mid .before) (start .κs)) in
-    act-whole cut (low .each-letter .last .0) (low .each-letter .kept .0) (mid .exchange .last .0) (mid .exchange .kept .0)
+    let turn = mid .exchange2 .ensures ∙ exchanged-one (u .q) (u .r) (u .m - 1) _ (u .j) _ (letter-two-blocks t (mid .before) (start .κs)) in
+    act-whole cut (low .each-letter .last .0) (low .each-letter .kept .0) (mid .exchange2 .last .0) (mid .exchange2 .kept .0)
     _ _ (top .each-letter2 .last .0) (low .each-letter .ensures) turn (top .each-letter2 .ensures)
 
 pub +each-letter+letter-spec : {M : Type 1} → statement M
@@ -194,6 +205,9 @@ pub +each-letter+letter-spec : {M : Type 1} → statement M
     (letter-rank-two-requires t)
     (λ c. c .before .before .letter-of-rank-two .kept .0)
     (letter-returns t)
+    (letter-exchange-requires t)
+    (λ c. c .before .before .exchange .kept .0)
+    (letter-returns-2 t)
     (λ c. omega arith)
     (λ c κs. omega arith)
     (λ c. omega arith)
@@ -217,5 +231,5 @@ pub +each-letter+letter-spec : {M : Type 1} → statement M
     (λ c. omega arith)
     (λ c. omega arith)
     (letter-each-letter-requires-2 t)
-    (letter-same-length-2 t)
-    (letter-returns-2 t))
+    (letter-same-length-3 t)
+    (letter-returns-3 t))

@@ -3,7 +3,7 @@ use mathlib.Core.Path.{_≡_, sym, ap, _∙_}
 use native.Mathlib.Omega.{arith}
 use borrow.Author.Needs.{needs}
 use Rattle.hecke.specs.Steps.{acted}
-use Rattle.hecke.proofs.RankTwo.{rank-two-size, same-size, second-size, letter-1, letter-2}
+use Rattle.hecke.proofs.LowRanks.{rank-two-size, same-size, second-size, letter-1, letter-2}
 use Rattle.hecke.proofs.action.letter_of_rank_two.Statement.{statement}
 use Rattle.hecke.proofs.action.letter_of_rank_two.Tie as tie
 

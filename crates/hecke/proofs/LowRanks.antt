@@ -1,7 +1,8 @@
--- One letter on an element of rank 2 is two exchanges, one of two single words and one of two blocks of 2 words. Rests on Parts, Pieces, Middle and Act.
+-- One letter on an element of rank 1 is an exchange of two words; on one of rank 2 it is two exchanges, one of two words and one of two blocks of 2
+-- words. Rests on Parts, Pieces, Middle and Act.
 use mathlib.Core.Path.{_≡_, refl, sym, ap, _∙_}
 use mathlib.Core.List.{List, [], _++_, append-nil}
-use Prim.Native.Nat.{ℕ, _-_, _≤_}
+use Prim.Native.Nat.{ℕ, suc, _-_, _≤_}
 use native.Mathlib.Omega.{arith}
 use lib.ListN.{length, take, drop, length-drop}
 use lib.Seq.{take-all, length-take-le}
@@ -13,6 +14,10 @@ use Rattle.hecke.proofs.Parts.{whole-block, front-put, rest-put}
 use Rattle.hecke.proofs.Pieces.{block-take, turned-cong, act-pieces}
 use Rattle.hecke.proofs.Middle.{swapped, exchanged-one}
 use Rattle.hecke.proofs.Act.{after-first}
+
+pub rank-one-size : {m j : ℕ} {x : List ℕ} → m ≡ 1 → ActPre m j 1 x [] → length x ≡ 2
+unfolding factorial
+rank-one-size e p = p .words ∙ ap (λ (n : ℕ). factorial (suc n)) e
 
 pub rank-two-size : {j : ℕ} {x : List ℕ} → ActPre 2 j 1 x [] → length x ≡ 6
 unfolding factorial
@@ -45,6 +50,11 @@ module _ (q r : ℕ) where
   unfolding blocks factorial
   one-exchange y e =
       exchanged-one q r 0 1 1 y e ∙ sym (act-pieces q r 1 1 1 1 y (omega arith) (omega arith) refl ∙ append-nil (turned q r 0 1 1 1 y))
+
+  pub letter-rank-one : {m j : ℕ} {x v : List ℕ} → m ≡ 1 → ActPre m j 1 x [] → v ≡ swapped q r 1 x → v ≡ acted q r m j 1 x
+  letter-rank-one {m} {j} {x} e p h =
+      let one : 1 ≡ j = omega (arith, p .below, p .within) in
+      h ∙ one-exchange x (rank-one-size e p) ∙ (λ i. acted q r (sym e i) (one i) 1 x)
 
   -- ---- rank 2
 
