@@ -140,8 +140,8 @@ def cases():
 
 
 def short():
-    """All sheets of one and of two bytes."""
+    """All sheets of one byte, and all of two that begin with a command."""
     for i in range(256):
         yield bytes([i])
-        for j in range(256):
-            yield bytes([i, j])
+        for code in OPERANDS:
+            yield bytes([code, i])

@@ -30,7 +30,7 @@ class Cases(unittest.TestCase):
     def test_enough(self):
         self.assertGreaterEqual(len(set(self.sheets)), 500)
         self.assertGreaterEqual(len(self.valid), 200)
-        self.assertEqual(len(set(short())), 256 + 256 * 256)
+        self.assertEqual(len(set(short())), 256 + 256 * 11)
 
     def test_the_same_every_time(self):
         self.assertEqual(self.sheets, list(cases()))
