@@ -40,8 +40,12 @@ module _ (at : ℕ) (x v₁ : List ℕ) (h : at ≤ length x) (s₁ : length v�
   pub second-size : length (take (length x₁ - at) (drop at x₁)) ≡ length x - at
   second-size = ap length second-part ∙ length-drop at x
 
-  both-parts : (v₂ : List ℕ) → putMid at (length x₁ - at) x₁ v₂ ≡ v₁ ++ v₂
-  both-parts v₂ = rest-put at x₁ v₂ ∙ ap (λ (p : List ℕ). p ++ v₂) (front-put at x v₁ _ refl h s₁)
+  -- each part came back with its two halves exchanged
+  pub both-exchanged : (q r b₁ b₂ : ℕ) {v₂ : List ℕ} → v₁ ≡ swapped q r b₁ (take (at - 0) x) → v₂ ≡ swapped q r b₂ (take (length x₁ - at) (drop at x₁))
+      → putMid at (length x₁ - at) x₁ v₂ ≡ swapped q r b₁ (take (at - 0) x) ++ swapped q r b₂ (drop at x)
+  both-exchanged q r b₁ b₂ {v₂} e₁ e₂ =
+      rest-put at x₁ v₂ ∙ ap (λ (p : List ℕ). p ++ v₂) (front-put at x v₁ _ refl h s₁)
+      ∙ (λ i. e₁ i ++ (e₂ ∙ ap (swapped q r b₂) second-part) i)
 
 module _ (q r : ℕ) where
   -- ---- rank 1
@@ -56,17 +60,17 @@ module _ (q r : ℕ) where
       let one : 1 ≡ j = omega (arith, p .below, p .within) in
       h ∙ one-exchange x (rank-one-size e p) ∙ (λ i. acted q r (sym e i) (one i) 1 x)
 
-  -- ---- rank 2
+  -- ---- rank 2, letters 1 and 2
 
   module _ (x : List ℕ) (size : length x ≡ 6) where
-    two-exchanges-1 : swapped q r 1 (take 2 x) ++ swapped q r 2 (drop 2 x) ≡ acted q r 2 1 1 x
+    pub two-exchanges-1 : swapped q r 1 (take 2 x) ++ swapped q r 2 (drop 2 x) ≡ acted q r 2 1 1 x
     unfolding block blocks factorial
     two-exchanges-1 =
         (λ i. one-exchange (take 2 x) (length-take-le 2 x (omega arith)) i ++ exchanged-one q r 1 2 1 (drop 2 x) (length-drop 2 x ∙ omega arith) i)
         ∙ sym (act-pieces q r 2 1 1 2 x (omega arith) (omega arith) refl
         ∙ ap (λ (y : List ℕ). acted q r 1 1 1 (take 2 x) ++ y) (append-nil (turned q r 1 2 1 1 (drop 2 x))))
 
-    two-exchanges-2 : swapped q r 2 (take 4 x) ++ swapped q r 1 (drop 4 x) ≡ acted q r 2 2 1 x
+    pub two-exchanges-2 : swapped q r 2 (take 4 x) ++ swapped q r 1 (drop 4 x) ≡ acted q r 2 2 1 x
     unfolding blocks factorial
     two-exchanges-2 =
         let rest : length (drop 4 x) ≡ 2 = length-drop 4 x ∙ omega arith in
@@ -75,15 +79,3 @@ module _ (q r : ℕ) where
         ∙ turned-cong q r 1 2 2 1 (take 4 x) x (omega arith) (λ i h. block-take 2 i 4 x (omega arith) (omega arith)) in
         (λ i. low i ++ (one-exchange (drop 4 x) rest ∙ ap (acted q r 1 1 1) (sym (whole-block 2 (drop 4 x) rest))) i)
         ∙ sym (act-pieces q r 2 2 1 2 x (omega arith) (omega arith) refl)
-
-    pub letter-1 : {v₁ v₂ : List ℕ} (s₁ : length v₁ ≡ length (take (2 - 0) x)) → v₁ ≡ swapped q r 1 (take (2 - 0) x)
-        → v₂ ≡ swapped q r 2 (take (length (putMid 0 (2 - 0) x v₁) - 2) (drop 2 (putMid 0 (2 - 0) x v₁)))
-        → putMid 2 (length (putMid 0 (2 - 0) x v₁) - 2) (putMid 0 (2 - 0) x v₁) v₂ ≡ acted q r 2 1 1 x
-    letter-1 {v₁} {v₂} s₁ e₁ e₂ =
-        both-parts 2 x v₁ (omega arith) s₁ v₂ ∙ (λ i. e₁ i ++ (e₂ ∙ ap (swapped q r 2) (second-part 2 x v₁ (omega arith) s₁)) i) ∙ two-exchanges-1
-
-    pub letter-2 : {v₁ v₂ : List ℕ} (s₁ : length v₁ ≡ length (take (4 - 0) x)) → v₁ ≡ swapped q r 2 (take (4 - 0) x)
-        → v₂ ≡ swapped q r 1 (take (length (putMid 0 (4 - 0) x v₁) - 4) (drop 4 (putMid 0 (4 - 0) x v₁)))
-        → putMid 4 (length (putMid 0 (4 - 0) x v₁) - 4) (putMid 0 (4 - 0) x v₁) v₂ ≡ acted q r 2 2 1 x
-    letter-2 {v₁} {v₂} s₁ e₁ e₂ =
-        both-parts 4 x v₁ (omega arith) s₁ v₂ ∙ (λ i. e₁ i ++ (e₂ ∙ ap (swapped q r 1) (second-part 4 x v₁ (omega arith) s₁)) i) ∙ two-exchanges-2

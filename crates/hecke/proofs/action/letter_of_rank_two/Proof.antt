@@ -3,7 +3,7 @@ use mathlib.Core.Path.{_≡_, sym, ap, _∙_}
 use native.Mathlib.Omega.{arith}
 use borrow.Author.Needs.{needs}
 use Rattle.hecke.specs.Steps.{acted}
-use Rattle.hecke.proofs.LowRanks.{rank-two-size, same-size, second-size, letter-1, letter-2}
+use Rattle.hecke.proofs.LowRanks.{rank-two-size, same-size, second-size, both-exchanged, two-exchanges-1, two-exchanges-2}
 use Rattle.hecke.proofs.action.letter_of_rank_two.Statement.{statement}
 use Rattle.hecke.proofs.action.letter_of_rank_two.Tie as tie
 
@@ -29,7 +29,9 @@ returns c =
     let first = second .before .before .before .before in
     let test = first .before .before in
     let start = test .before .before in let u = start .args in
-    letter-1 (u .q) (u .r) (u .x .now) (rank-two-size (start .pre)) (first .exchange .kept .0) (first .exchange .ensures) (second .exchange2 .ensures)
+    let size = rank-two-size (start .pre) in
+    both-exchanged 2 (u .x .now) (first .exchange .last .0) (omega arith) (first .exchange .kept .0) (u .q) (u .r) 1 2 (first .exchange .ensures) (second .exchange2 .ensures)
+    ∙ two-exchanges-1 (u .q) (u .r) (u .x .now) size
     ∙ ap (λ n. acted (u .q) (u .r) 2 n 1 (u .x .now)) (sym (test .if1 .taken))
 
 -- ---- j = 2
@@ -55,7 +57,9 @@ returns-2 c =
     let test = first .before .before in
     let start = test .before .before in let u = start .args in
     let two : 2 ≡ u .j = omega (arith, test .if1 .left, start .pre .within, start .pre .below) in
-    letter-2 (u .q) (u .r) (u .x .now) (rank-two-size (start .pre)) (first .exchange3 .kept .0) (first .exchange3 .ensures) (second .exchange4 .ensures)
+    let size = rank-two-size (start .pre) in
+    both-exchanged 4 (u .x .now) (first .exchange3 .last .0) (omega arith) (first .exchange3 .kept .0) (u .q) (u .r) 2 1 (first .exchange3 .ensures) (second .exchange4 .ensures)
+    ∙ two-exchanges-2 (u .q) (u .r) (u .x .now) size
     ∙ ap (λ n. acted (u .q) (u .r) 2 n 1 (u .x .now)) two
 
 pub letter-of-rank-two-spec : {M : Type 1} → statement M
