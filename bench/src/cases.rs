@@ -96,7 +96,8 @@ fn conversion(timed: bool, call: &'static str, points: usize, given: [Vec<u8>; I
     let blank = vec![255; 2 * points - 1 - given[0].len()];
     let given = &given;
     let contenders = by.map(|convert| move |i: usize, result: &mut Vec<u8>| convert(&given[i], result));
-    Row::new(timed, (call, format!("{points} points")), contenders, INPUTS, blank)
+    let size = if points == 1 { "1 point".to_string() } else { format!("{points} points") };
+    Row::new(timed, (call, size), contenders, INPUTS, blank)
 }
 
 fn tower_of_images(timed: bool, points: usize) -> Row {
@@ -131,7 +132,7 @@ fn whole_sheet(timed: bool, name: &str) -> Row {
 /// All cases, timed or only compared.
 pub fn rows(timed: bool) -> Vec<Row> {
     let ranks = 3..=6;
-    let points = [4, 8, 16, 32, 64];
+    let points = [1, 4, 8, 16, 32, 64];
     let mut rows: Vec<Row> = ranks.clone().map(|m| product(timed, m)).collect();
     rows.extend(ranks.map(|m| word(timed, m)));
     rows.extend(points.map(|n| tower_of_images(timed, n)));

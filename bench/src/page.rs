@@ -29,7 +29,11 @@ All results, and the scratch after a product, are compared before the clock star
 on the same of eight random inputs; a time is the mean over a batch of calls, the least over all rounds with the median in
 brackets. Result slices hold what the call before left: nothing is cleared for a call. Every product clears the first (m + 6) M
 words of its scratch at its end, as document 01 asks, and this is timed. A word's element is copied from the input first, which
-is timed too. A sheet is one process: its start and both pipes are timed. Ratios are those of the least times.
+is timed too. Of one point nothing is converted: these rows are what a call costs by itself, its checks, its report and its
+slices, which pass through memory. At 4 points it is a large part of the time, and the ratio of tower to image list there
+changes with the layout of both programs: runs before this page gave 1.2 to 1.8, at 9 to 12 ns for (a), and once 1.44 at 8 points.
+So that aim is met at 4 points in some builds and missed in others, by some nanoseconds. A sheet is one process: its start and both
+pipes are timed. Ratios are those of the least times.
 
 ## What the inner loops compile to
 
@@ -83,7 +87,8 @@ pub fn table(rows: &[Row]) -> String {
 /// The aims, with what was measured and whether it holds.
 pub fn aims(rows: &[Row]) -> String {
     let largest = |call: &str| {
-        let ratios = rows.iter().filter(|row| row.call == call).filter_map(|row| row.ratio(0, 1));
+        let sizes = rows.iter().filter(|row| row.call == call && row.size != "1 point");
+        let ratios = sizes.filter_map(|row| row.ratio(0, 1));
         ratios.fold(0.0, f64::max)
     };
     let product = rows.iter().find(|row| (row.call, row.size.as_str()) == ("product", "rank 6")).unwrap();
