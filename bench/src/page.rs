@@ -16,9 +16,10 @@ const TERMS: &str = "
 ## What is compared
 
 - **library**: the call through the wrapper `rust/hecke`, with all its checks. A sheet goes through the program `run_sheet`.
-- **(a)**: the same nested method in plain Rust, `bench/src/nested.rs`, with the machine's own wrapping multiplication. For
-  towers, plain Rust with the same checks, where larger images are counted in a mask of those seen, `bench/src/towers.rs`. For
-  sheets, the runner of `rust/plain` by this method.
+- **(a)**: the same nested method in plain Rust, `bench/src/nested.rs`, with the machine's own wrapping multiplication. It has
+  no case of its own for ranks 1 and 2, as the library has; this is why the library is the faster of the two. For towers,
+  plain Rust with the same checks, where larger images are counted in a mask of those seen, `bench/src/towers.rs`. For sheets,
+  the runner of `rust/plain` by this method.
 - **(b)**: formula 4.4 on plain lists, `bench/src/lists.rs`: each T_v acts through its whole word, as source document 000
   counts. The places of w and ws, and the words, are in tables made before the clock starts; `rust/plain`, written to be read,
   makes words and lists anew for each v. For sheets (b) is `rust/plain` as it is, its tables timed.
