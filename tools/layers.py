@@ -8,8 +8,10 @@
 import re
 import sys
 from html import escape
-from itertools import permutations
+from itertools import accumulate
+from math import floor, inf
 from pathlib import Path
+from statistics import fmean
 from textwrap import wrap
 
 ROOT = Path(__file__).resolve().parent.parent
@@ -29,12 +31,12 @@ def listed():
 
 def reduced(crates):
     """What each crate depends on, without the kit's crates and without what another of these depends on."""
-    own = {name: [d for d in needs if d in crates] for name, needs in crates.items()}
-
-    def below(name):
-        return set(own[name]).union(*map(below, own[name]))
-
-    return {name: [d for d in needs if not any(d in below(other) for other in needs)] for name, needs in own.items()}
+    below, rests = {}, {}
+    for name, needs in crates.items():  # lowest layer first
+        own = [d for d in needs if d in crates]
+        below[name] = set(own).union(*(below[d] for d in own))
+        rests[name] = [d for d in own if not any(d in below[other] for other in own)]
+    return rests
 
 
 def levels(rests):
@@ -84,7 +86,7 @@ def with_table(page, crates, logged):
 #
 # A place is a crate or, as a pair of crates, an arrow on its way through a row.
 
-WIDE, NARROW, HIGH, APART, BETWEEN = 236, 16, 60, 22, 58
+WIDE, NARROW, HIGH, APART, BETWEEN = 164, 16, 74, 22, 58
 SHADES = {'library': ('#eaf1fb', '#3b6ea8'), 'program': ('#fdebd3', '#b9770e'), 'test': ('#eeeeee', '#777777')}
 
 
@@ -108,47 +110,149 @@ def rows_and_steps(rests, level):
     return rows, steps
 
 
-def positions(order):
-    """The middles of the places of a row, which is centred."""
-    sizes = [NARROW if isinstance(place, tuple) else WIDE for place in order]
-    left, middles = -(sum(sizes) + APART * (len(sizes) - 1)) / 2, {}
-    for place, size in zip(order, sizes):
-        middles[place] = left + size / 2
-        left += size + APART
+def joined(rows, steps):
+    """What each place of each row is joined to below and above, each as the number of a row and a place of it."""
+    near = [{place: ([], []) for place in order} for order in rows]
+    for n, a, b in steps:
+        near[n][a][0].append((n - 1, b))
+        near[n - 1][b][1].append((n, a))
+    return near
+
+
+# The order of a row is held as a number from 0 to 1 for each place, rising from left to right.
+
+def numbered(order):
+    return {place: (i + .5) / len(order) for i, place in enumerate(order)}
+
+
+def crossings(at, near):
+    """How often steps cross."""
+    total = 0
+    for places, ends in zip(at, near):
+        lower = [x for place in places for x in sorted(at[m][b] for m, b in ends[place][0])]
+        total += sum(lower[i] > x for j, x in enumerate(lower) for i in range(j))
+    return total
+
+
+def excess(at, first, second):
+    """How many more crossings two places of a row have in this order than in the other; given is what they are joined to."""
+    return sum((at[m][a] > at[m][b]) - (at[m][a] < at[m][b])
+               for ends, others in zip(first, second) for m, a in ends for _, b in others)
+
+
+def swept(at, near, side):
+    """Each row sorted by the means of what its places are joined to: by the row below, upwards, or above, downwards."""
+    at = list(at)
+    for n in reversed(range(len(at))) if side else range(len(at)):
+        means = {place: fmean([at[m][end] for m, end in near[n][place][side]] or [x]) for place, x in at[n].items()}
+        at[n] = numbered(sorted(at[n], key=means.get))
+    return at
+
+
+def sifted(at, near):
+    """Each place in turn moved to where in its row its steps cross least, until none moves."""
+    at, moved = list(at), True
+    while moved:
+        moved = False
+        for n, ends in enumerate(near):
+            for place in ends:
+                order = list(at[n])
+                now = order.index(place)
+                order.remove(place)
+                costs = [0, *accumulate(excess(at, ends[other], ends[place]) for other in order)]
+                if min(costs) < costs[now]:
+                    order.insert(costs.index(min(costs)), place)
+                    at[n], moved = numbered(order), True
+    return at
+
+
+def ordered(at, near):
+    """The order after sweeps up and down, repeated while the number of crossings falls."""
+    while True:
+        up = sifted(swept(at, near, 0), near)
+        down = sifted(swept(up, near, 1), near)
+        best = min(at, up, down, key=lambda found: crossings(found, near))
+        if best is at:
+            return at
+        at = best
+
+
+def size(place):
+    return NARROW if isinstance(place, tuple) else WIDE
+
+
+def gap(left, right):
+    """The least distance between the middles of two places side by side."""
+    return (size(left) + size(right)) // 2 + APART
+
+
+def spaced(wants):
+    """The middles of a row's places, far enough apart, with the least sum of weighted squares of their way from the wants."""
+    order, blocks = list(wants), []
+    offsets = [0, *accumulate(map(gap, order, order[1:]))]
+    for place, offset in zip(order, offsets):
+        x, weight = wants[place]
+        block = (x - offset, weight, 1)
+        while blocks and blocks[-1][0] > block[0]:  # too near: both become one block at their mean
+            (x, v, k), (y, w, m) = blocks.pop(), block
+            block = ((x * v + y * w) / (v + w), v + w, k + m)
+        blocks.append(block)
+    starts = [x for x, _, k in blocks for _ in range(k)]
+    return {place: x + offset for place, x, offset in zip(order, starts, offsets)}
+
+
+def placed(at, near):
+    """The middles of all places: each row in turn, up and down, as near as it can be to what its places are joined to."""
+    middles = [spaced({place: (0, 1) for place in order}) for order in at]
+    for n in [*range(len(at)), *reversed(range(len(at)))] * 20:
+        wants = {}
+        for place, x in middles[n].items():
+            ends = [middles[m][end] for side in near[n][place] for m, end in side]
+            wants[place] = (fmean(ends or [x]), max(len(ends), 1))
+        middles[n] = spaced(wants)
     return middles
 
 
-def cost(upper, lower, steps):
-    """How often the steps between two rows cross, and then how far they go aside."""
-    ends = [(upper[a], lower[b]) for a, b in steps]
-    crossed = sum((a - c) * (b - d) < 0 for i, (a, b) in enumerate(ends) for c, d in ends[:i])
-    return crossed * 10000 + sum(abs(a - b) for a, b in ends)
+def straightened(middles):
+    """The middles as integers, and one for each arrow on its way through rows, where there is space for it."""
+    middles = [{place: floor(x + .5) for place, x in at.items()} for at in middles]
+    orders = [list(at) for at in middles]
+    ways = list(dict.fromkeys(place for order in orders for place in order if isinstance(place, tuple)))
+    for way in ways * 2:  # those moved the first time leave space
+        rows = [n for n, at in enumerate(middles) if way in at]
+        lows, highs = [-inf], [inf]
+        for n in rows:
+            i = orders[n].index(way)
+            lows += [middles[n][a] + gap(a, way) for a in orders[n][:i][-1:]]
+            highs += [middles[n][b] - gap(way, b) for b in orders[n][i + 1:][:1]]
+        if max(lows) <= min(highs):
+            mean = sum(middles[n][way] for n in rows) // len(rows)
+            for n in rows:
+                middles[n][way] = min(max(mean, *lows), *highs)
+    return middles
 
 
 def arranged(rows, steps):
-    """The middles of all places: each row, in turn, in the best order beside its neighbours, until none changes."""
-    between = [[(a, b) for n, a, b in steps if n == i] for i in range(len(rows))]
-    middles = [positions(order) for order in rows]
-    changed = True
-    while changed:
-        changed = False
-        for n, order in enumerate(rows):
-            def total(at):
-                down = cost(at, middles[n - 1], between[n]) if n else 0
-                return down + (cost(middles[n + 1], at, between[n + 1]) if n + 1 < len(rows) else 0)
-            best = min(map(positions, permutations(order)), key=total)
-            if total(best) < total(middles[n]):
-                middles[n], changed = best, True
-    return middles
+    """The middles of all places: the best that is found when the search starts with the rows rotated by 0, 1, 2 and so on.
+
+    The best has the fewest crossings and, among those that have them, the least total way aside.
+    """
+    near, found = joined(rows, steps), []
+    for k in range(max(map(len, rows))):
+        at = ordered([numbered(order[k % len(order):] + order[:k % len(order)]) for order in rows], near)
+        middles = straightened(placed(at, near))
+        aside = sum(abs(middles[n][a] - middles[n - 1][b]) for n, a, b in steps)
+        found.append((crossings(at, near), aside, k, middles))
+    return min(found)[-1]
 
 
 def box(name, x, y, shade, caption):
     fill, stroke = shade
-    lines = wrap(caption, 38)[:2]
+    lines = wrap(caption, 24, max_lines=3, placeholder=' ...')
     text = [f'<text x="{x:g}" y="{y + 22:g}" class="name">{escape(name)}</text>']
     text += [f'<text x="{x:g}" y="{y + 38 + 14 * i:g}">{escape(line)}</text>' for i, line in enumerate(lines)]
-    size = f'width="{WIDE}" height="{HIGH}" rx="6"'
-    return [f'<rect x="{x - WIDE / 2:g}" y="{y:g}" {size} fill="{fill}" stroke="{stroke}"/>', *text]
+    shape = f'width="{WIDE}" height="{HIGH}" rx="6"'
+    return [f'<rect x="{x - WIDE / 2:g}" y="{y:g}" {shape} fill="{fill}" stroke="{stroke}"/>', *text]
 
 
 def legend(x, y):
@@ -165,14 +269,15 @@ def drawn(crates):
     level = levels(rests)
     rows, steps = rows_and_steps(rests, level)
     middles, said = arranged(rows, steps), captions()
-    width = 2 * max(max(at.values()) for at in middles) + WIDE + 2 * APART
+    left = min(x - size(place) / 2 for at in middles for place, x in at.items()) - APART
+    width = max(x + size(place) / 2 for at in middles for place, x in at.items()) + APART - left
     height = len(rows) * (HIGH + BETWEEN) + APART
 
     def top(n):
         return APART + (len(rows) - 1 - n) * (HIGH + BETWEEN)
 
     def spot(n, place):
-        return middles[n][place] + width / 2
+        return middles[n][place] - left
 
     lines = []
     for n, a, b in steps:

@@ -1,7 +1,6 @@
 //! The cases: the library beside the other contenders, on random inputs and on sheets.
 
 use crate::clock::{agree, race, Times, INPUTS};
-use crate::nested::FACTORIAL;
 use crate::{lists, nested, sheet, towers};
 use plain::sheet::{Action, Product};
 use std::path::Path;
@@ -32,7 +31,7 @@ impl Random {
     }
 
     fn element(&mut self, m: usize) -> Vec<u64> {
-        (0..FACTORIAL[m + 1]).map(|_| self.word()).collect()
+        (0..hecke::size(m)).map(|_| self.word()).collect()
     }
 
     fn tower(&mut self, points: usize) -> Vec<u8> {
@@ -72,8 +71,8 @@ fn product(timed: bool, m: usize) -> Row {
             product(m, *q, left, right, result, scratch);
         }
     });
-    let size = FACTORIAL[m + 1];
-    Row::new(timed, ("product", format!("rank {m}")), contenders, INPUTS, (vec![1; size], vec![1; (m + 6) * size]))
+    let blank = (vec![1; hecke::size(m)], vec![1; hecke::scratch_size(m)]);
+    Row::new(timed, ("product", format!("rank {m}")), contenders, INPUTS, blank)
 }
 
 fn word(timed: bool, m: usize) -> Row {
@@ -89,7 +88,7 @@ fn word(timed: bool, m: usize) -> Row {
             act(m, *q, word, element);
         }
     });
-    Row::new(timed, ("word of 100 letters", format!("rank {m}")), contenders, INPUTS, vec![1; FACTORIAL[m + 1]])
+    Row::new(timed, ("word of 100 letters", format!("rank {m}")), contenders, INPUTS, vec![1; hecke::size(m)])
 }
 
 fn conversion(timed: bool, call: &'static str, points: usize, given: [Vec<u8>; INPUTS], by: [Conversion; 2]) -> Row {

@@ -86,8 +86,8 @@ pub fn act_word(m: usize, q: u64, word: &[u8], element: &mut [u64]) {
     }
 }
 
-/// The product of two elements of rank m, where each T_v acts through its whole word. The first (m + 6) M words of scratch are
-/// zero afterwards.
+/// The product of two elements of rank m, where each T_v acts through its whole word. The scratch, which is as large as the
+/// library asks for, is zero afterwards.
 pub fn product(m: usize, q: u64, left: &[u64], right: &[u64], result: &mut [u64], scratch: &mut [u64]) {
     let lists = Lists::of_rank(m);
     result.fill(0);
@@ -97,7 +97,7 @@ pub fn product(m: usize, q: u64, left: &[u64], right: &[u64], result: &mut [u64]
         word.iter().for_each(|&i| lists.letter(q, x, i));
         add_multiple(result, b, x);
     }
-    scratch[..(m + 6) * left.len()].fill(0);
+    scratch.fill(0);
 }
 
 /// The same product, where h T_v is kept for every beginning of the word in hand, in as many lists more as T_v has letters.
@@ -106,5 +106,5 @@ pub fn product_kept(m: usize, q: u64, left: &[u64], right: &[u64], result: &mut 
     kept[..left.len()].copy_from_slice(left);
     result.fill(0);
     Lists::of_rank(m).collect(q, 0, right, result, &mut kept);
-    scratch[..(m + 6) * left.len()].fill(0);
+    scratch.fill(0);
 }

@@ -1,7 +1,7 @@
 //! The library's own method in plain Rust: Proposition 3.2 block by block, and the product's recursion over the right factor.
 
 /// n! for n up to 7; an element of rank m has the size of index m + 1, and its blocks that of index m.
-pub const FACTORIAL: [usize; 8] = [1, 1, 2, 6, 24, 120, 720, 5040];
+const FACTORIAL: [usize; 8] = [1, 1, 2, 6, 24, 120, 720, 5040];
 
 /// q and q - 1.
 #[derive(Clone, Copy)]
@@ -101,9 +101,8 @@ pub fn act_word(m: usize, q: u64, word: &[u8], element: &mut [u64]) {
     }
 }
 
-/// The product of two elements of rank m. The first (m + 6) M words of scratch are zero afterwards.
+/// The product of two elements of rank m. The scratch, which is as large as the library asks for, is zero afterwards.
 pub fn product(m: usize, q: u64, left: &[u64], right: &[u64], result: &mut [u64], scratch: &mut [u64]) {
-    let scratch = &mut scratch[..(m + 6) * FACTORIAL[m + 1]];
     Algebra::new(q).times(result, scratch, left, right, m, m);
     scratch.fill(0);
 }

@@ -4,11 +4,11 @@ use mathlib.Core.Path.{_≡_, refl}
 use mathlib.Core.List.{List, map}
 use Prim.Native.Nat.{ℕ}
 use Rattle.ring.specs.Modular.{modular, words}
-use Rattle.perms.specs.Lists.{same, less, range, tally}
+use Rattle.lists.specs.Lists.{same, less, range, tally}
+use Rattle.lists.specs.Numbers.{factorial, series}
+use Rattle.lists.specs.Blocks.{block, blocks}
 use Rattle.perms.specs.Permutation.{product, identity, swap, generator, ofWord, below, len}
 use Rattle.perms.specs.Tower.{above, entry, towerOf, cycle, cycles, standard}
-use Rattle.algebra.specs.Numbers.{factorial, series}
-use Rattle.algebra.specs.Blocks.{block, blocks}
 use Rattle.algebra.specs.Place.{place, join, perms}
 use Rattle.algebra.specs.Element.{coefficient, element, plus, scale, sumOver}
 use Rattle.algebra.specs.Product.{minusOne, letter, act, times}

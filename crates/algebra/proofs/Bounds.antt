@@ -1,12 +1,12 @@
--- C(m, l) < 4 (l + 1)! (m + 1)! for l ≤ m ≤ 6, by computation: a search for a pair at which this fails finds none. Rests on the search `first` of perms.
+-- C(m, l) < 4 (l + 1)! (m + 1)! for l ≤ m ≤ 6, by computation: a search for a pair at which this fails finds none. Rests on the search `first` of lists.
 use mathlib.Core.Path.{_≡_, refl}
 use mathlib.Core.Bool.{Bool}
 use Prim.Native.Nat.{ℕ, suc}
 use native.Mathlib.Omega.{arith}
-use Rattle.perms.specs.Lists.{less, first}
-use Rattle.perms.proofs.Test.{less-false}
-use Rattle.perms.proofs.First.{passed}
-use Rattle.algebra.specs.Numbers.{factorial, series}
+use Rattle.lists.specs.Lists.{less, first}
+use Rattle.lists.specs.Numbers.{factorial, series}
+use Rattle.lists.proofs.Test.{less-false}
+use Rattle.lists.proofs.First.{passed}
 use Rattle.algebra.specs.Cost.{cLine, c, C, bound}
 use Rattle.algebra.specs.Method.{Bounds}
 

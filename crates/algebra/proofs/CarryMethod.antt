@@ -1,15 +1,15 @@
 -- Formula 3.1, Proposition 3.2 and the values of the nested method go over along a map of ring operations onto the coefficients that are meant.
--- Rests on Blocks, NestedMaps and Onto.
+-- Rests on NestedMaps, Onto and lists' Blocks.
 use mathlib.Core.Path.{sym, ap, _∙_}
 use mathlib.Core.List.{List, map}
 use Prim.Native.Nat.{ℕ}
 use Rattle.ring.specs.Ring.{Ops, Hom}
+use Rattle.lists.proofs.Blocks.{map-block}
 use Rattle.perms.specs.Tower.{cycle}
 use Rattle.algebra.specs.Element.{Element}
 use Rattle.algebra.specs.Laws.{Formula}
 use Rattle.algebra.specs.Method.{Proposition3-2, Method}
 use Rattle.algebra.specs.Maps.{mapped, Maps}
-use Rattle.algebra.proofs.Blocks.{map-block}
 use Rattle.algebra.proofs.NestedMaps.{maps}
 use Rattle.algebra.proofs.Onto.{any, Onto, every, every2, elements}
 

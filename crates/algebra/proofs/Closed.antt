@@ -5,8 +5,8 @@ use mathlib.Core.List.{List, [], _∷_, map}
 use Prim.Native.Nat.{ℕ, suc}
 use lib.ListN.{length, length-map}
 use Rattle.ring.specs.Ring.{Ops, Hom}
-use Rattle.perms.specs.Lists.{All}
-use Rattle.algebra.specs.Numbers.{factorial}
+use Rattle.lists.specs.Lists.{All}
+use Rattle.lists.specs.Numbers.{factorial}
 use Rattle.algebra.specs.Element.{Element, plus, scale, basis}
 use Rattle.algebra.specs.Product.{act, times}
 use Rattle.algebra.specs.Laws.{defined, Closed}

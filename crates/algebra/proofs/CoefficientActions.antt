@@ -7,6 +7,7 @@ use Prim.Native.Nat.{ℕ, suc, _≤_}
 use lib.ListN.{length}
 use Rattle.ring.specs.Ring.{Ops}
 use Rattle.ring.proofs.Combination.{comb}
+use Rattle.lists.specs.Numbers.{factorial}
 use Rattle.perms.specs.Permutation.{Perm, Letter, Word}
 use Rattle.perms.specs.Tower.{towerOf, standard}
 use Rattle.perms.proofs.Perm.{rgt}
@@ -15,7 +16,6 @@ use Rattle.perms.proofs.Word.{word-up}
 use Rattle.perms.proofs.Longer.{ascR-longer}
 use Rattle.perms.proofs.Ascent.{ascR}
 use Rattle.perms.proofs.Lengths.{standard-shortest}
-use Rattle.algebra.specs.Numbers.{factorial}
 use Rattle.algebra.specs.Place.{perms}
 use Rattle.algebra.specs.Element.{coefficient, scale}
 use Rattle.algebra.specs.Product.{letter, act, times}

@@ -10,14 +10,14 @@ use lib.ListN.{length, getD, length-map}
 use lib.Seq.{ext-getD}
 use Rattle.ring.specs.Ring.{Ops}
 use Rattle.ring.specs.Sum.{sum}
-use Rattle.perms.specs.Lists.{same, range}
+use Rattle.lists.specs.Lists.{same, range}
+use Rattle.lists.specs.Numbers.{factorial}
+use Rattle.lists.proofs.Test.{SameView, is, isnt, same?}
+use Rattle.lists.proofs.Range.{length-range, getD-range, getD-map}
+use Rattle.lists.proofs.All.{map-all}
 use Rattle.perms.specs.Permutation.{Perm}
-use Rattle.perms.proofs.Test.{SameView, is, isnt, same?}
-use Rattle.perms.proofs.Range.{length-range, getD-range, getD-map}
-use Rattle.algebra.specs.Numbers.{factorial}
 use Rattle.algebra.specs.Place.{place, perms}
 use Rattle.algebra.specs.Element.{coefficient, element, plus, scale, sumOver, basis}
-use Rattle.perms.proofs.All.{map-all}
 use Rattle.algebra.proofs.Functions.{Eq}
 use Rattle.algebra.proofs.Lists.{plus-length, getD-plus, getD-scale}
 use Rattle.algebra.proofs.Enumeration.{perms-perm}

@@ -1,17 +1,17 @@
 -- What the nested method takes, for any weights of a ring sum and a ring product: `cost` for h T_a(j,l) and `costs` for h g.
--- It depends on lengths alone, and on no law of a ring. Rests on Series, Blocks and Takes.
+-- It depends on lengths alone, and on no law of a ring. Rests on Takes, and lists' Series and Blocks.
 use mathlib.Core.Path.{_≡_, refl, ap}
 use mathlib.Core.List.{List}
 use Prim.Native.Nat.{ℕ, zero, suc, _+_, _-_, _*_, _≤_, _<_}
 use native.Mathlib.Omega.{arith}
 use lib.ListN.{length, getD}
 use Rattle.ring.specs.Ring.{Ops}
-use Rattle.algebra.specs.Numbers.{factorial, series}
-use Rattle.algebra.specs.Blocks.{block}
+use Rattle.lists.specs.Numbers.{factorial, series}
+use Rattle.lists.specs.Blocks.{block}
+use Rattle.lists.proofs.Series.{series-add, series-const}
+use Rattle.lists.proofs.Blocks.{block-length}
 use Rattle.algebra.specs.Nested.{Counted, free, row, _⊞_, _⊠_, sumRow, part, level, nestedAct, nested}
 use Rattle.algebra.specs.Cost.{costLine, cost, costs}
-use Rattle.algebra.proofs.Series.{series-add, series-const}
-use Rattle.algebra.proofs.Blocks.{block-length}
 use Rattle.algebra.proofs.Takes.{Takes, takes-as, takes-free, takes-onward, takes-join, takes-row, takes-plus, takes-scale, takes-sum}
 
 module _ (A : Type 0) (o : Ops A) (q r : A) (s p : ℕ) where

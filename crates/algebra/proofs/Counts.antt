@@ -4,7 +4,7 @@ use mathlib.Core.Path.{_≡_, refl, ap, _∙_, fun-ext}
 use Prim.Native.Nat.{ℕ, zero, suc, _+_, _*_}
 use native.Mathlib.Omega.{arith}
 use Rattle.ring.specs.Ring.{Ops}
-use Rattle.algebra.specs.Numbers.{series}
+use Rattle.lists.specs.Numbers.{series}
 use Rattle.algebra.specs.Nested.{Count, operations}
 use Rattle.algebra.specs.Cost.{cLine, c, C, costLine, cost, costs}
 use Rattle.algebra.specs.Method.{Counts}

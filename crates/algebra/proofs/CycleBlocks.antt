@@ -8,7 +8,7 @@ use Rattle.ring.specs.Ring.{Ops, Ring}
 use Rattle.ring.specs.Sum.{sum}
 use Rattle.ring.proofs.Ring.{add-zero, mul-zero}
 use Rattle.ring.proofs.Combination.{comb-one}
-use Rattle.perms.specs.Lists.{All, range}
+use Rattle.lists.specs.Lists.{All, range}
 use Rattle.perms.specs.Permutation.{Perm}
 use Rattle.perms.specs.Tower.{cycle}
 use Rattle.perms.specs.Extend.{extend}

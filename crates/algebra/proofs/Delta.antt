@@ -1,4 +1,4 @@
--- The functions δ_v of permutations, 1 at v and 0 elsewhere: a function is the sum of its values times these. Rests on Places, ring's Sum and perms' Equal.
+-- The functions δ_v of permutations, 1 at v and 0 elsewhere: a function is the sum of its values times these. Rests on Places, ring's Sum and lists' Equal.
 --
 --   delta A o v w   δ_v(w)
 use mathlib.Core.Path.{_≡_, sym, ap, _∙_}
@@ -12,9 +12,9 @@ use Rattle.ring.specs.Ring.{Ops, Ring}
 use Rattle.ring.specs.Sum.{sum}
 use Rattle.ring.proofs.Ring.{mul-one, mul-zero}
 use Rattle.ring.proofs.Sum.{sum-single}
+use Rattle.lists.proofs.Equal.{equal, equal-iff, equal-self, equal-no}
 use Rattle.perms.specs.Permutation.{Perm}
 use Rattle.algebra.specs.Place.{place, perms}
-use Rattle.perms.proofs.Equal.{equal, equal-iff, equal-self, equal-no}
 use Rattle.algebra.proofs.Places.{length-perms, place-at, map-at-place}
 
 module _ (A : Type 0) (o : Ops A) where

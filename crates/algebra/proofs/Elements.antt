@@ -10,15 +10,15 @@ use lib.ListN.{length}
 use Rattle.ring.specs.Ring.{Ops}
 use Rattle.ring.specs.Sum.{sum}
 use Rattle.ring.proofs.Sum.{sum-cong}
+use Rattle.lists.specs.Numbers.{factorial}
+use Rattle.lists.specs.Blocks.{block}
+use Rattle.lists.proofs.Blocks.{block-length}
 use Rattle.perms.specs.Permutation.{Perm, Word}
-use Rattle.algebra.specs.Numbers.{factorial}
-use Rattle.algebra.specs.Blocks.{block}
 use Rattle.algebra.specs.Place.{join}
 use Rattle.algebra.specs.Element.{coefficient, plus, scale, sumOver, basis}
 use Rattle.algebra.specs.Product.{act, times}
 use Rattle.algebra.proofs.Functions.{Eq}
 use Rattle.algebra.proofs.Lists.{plus-length, scale-length}
-use Rattle.algebra.proofs.Blocks.{block-length}
 use Rattle.algebra.proofs.Enumeration.{perm-join}
 use Rattle.algebra.proofs.Order.{coefficient-block}
 use Rattle.algebra.proofs.Delta.{delta}

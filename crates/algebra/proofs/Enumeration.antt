@@ -1,18 +1,18 @@
 -- The permutations of rank m + 1 from those of rank m: u a(m + 1, k) makes room for the value m + 2 - k in u and puts it last, it is a permutation,
--- and each is of this kind. So the elements of `perms m` are permutations. Rests on perms' All, ImagesOf and Split.
+-- and each is of this kind. So the elements of `perms m` are permutations. Rests on lists' All, and perms' ImagesOf and Split.
 use mathlib.Core.Path.{_≡_, sym, ap, _∙_}
 use mathlib.Core.List.{List, map}
 use Prim.Native.Nat.{ℕ, zero, suc, _+_, _-_, _≤_, _<_}
 use native.Mathlib.Omega.{arith}
-use Rattle.perms.specs.Lists.{All}
+use Rattle.lists.specs.Lists.{All}
+use Rattle.lists.specs.Blocks.{blocks}
+use Rattle.lists.proofs.All.{all-append, all-map}
 use Rattle.perms.specs.Permutation.{Perm}
 use Rattle.perms.specs.Extend.{extend}
-use Rattle.perms.proofs.Range.{perm-identity}
+use Rattle.perms.proofs.Identity.{perm-identity}
 use Rattle.perms.proofs.Split.{Tail, perm-extend, Apart, split}
 use Rattle.perms.proofs.ImagesOf.{extend-product}
-use Rattle.algebra.specs.Blocks.{blocks}
 use Rattle.algebra.specs.Place.{join, perms}
-use Rattle.perms.proofs.All.{all-append, all-map}
 
 pub join-extend : {m : ℕ} (k : ℕ) (u : List ℕ) → k ≤ suc m → Perm m u → join m k u ≡ extend (m + 2 - k) u
 unfolding join

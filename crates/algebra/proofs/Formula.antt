@@ -5,6 +5,7 @@ use mathlib.Core.List.{List, [], _∷_}
 use Prim.Native.Nat.{ℕ}
 use Rattle.ring.specs.Ring.{Ops, Ring}
 use Rattle.ring.proofs.Combination.{comb}
+use Rattle.lists.proofs.All.{all-member}
 use Rattle.perms.specs.Permutation.{Perm, Letter}
 use Rattle.perms.proofs.Perm.{rgt, rgt-rgt, perm-rgt}
 use Rattle.perms.proofs.Products.{product-generator}
@@ -14,7 +15,6 @@ use Rattle.algebra.specs.Place.{perms}
 use Rattle.algebra.specs.Element.{coefficient, plus, scale, basis}
 use Rattle.algebra.specs.Product.{basisLetter, letter, act}
 use Rattle.algebra.specs.Laws.{Formula}
-use Rattle.perms.proofs.All.{all-member}
 use Rattle.algebra.proofs.Functions.{Eq}
 use Rattle.algebra.proofs.Enumeration.{perms-perm}
 use Rattle.algebra.proofs.Delta.{delta, delta-sum}

@@ -4,7 +4,7 @@ use mathlib.Core.Path.{_≡_}
 use mathlib.Core.List.{List}
 use Prim.Native.Nat.{ℕ, suc, _≤_, _<_}
 use Rattle.ring.specs.Ring.{Ops}
-use Rattle.perms.specs.Lists.{count}
+use Rattle.lists.specs.Lists.{count}
 use Rattle.perms.specs.Extend.{extend}
 use Rattle.perms.proofs.Extend.{rgt-above, rgt-upper, rgt-lower, rgt-below}
 use Rattle.perms.proofs.ExtendAscent.{asc-above, asc-upper, asc-lower, asc-below}

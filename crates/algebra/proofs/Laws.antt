@@ -6,7 +6,7 @@ use Prim.Native.Nat.{ℕ}
 use native.Mathlib.Omega.{arith}
 use Rattle.ring.specs.Ring.{Ops, Ring}
 use Rattle.perms.specs.Permutation.{Letter, identity, Shortest}
-use Rattle.perms.proofs.Range.{perm-identity}
+use Rattle.perms.proofs.Identity.{perm-identity}
 use Rattle.perms.proofs.Products.{perm-generator}
 use Rattle.perms.proofs.Reduced.{short-perm, short-nil, short-letter}
 use Rattle.algebra.specs.Element.{Element, coefficient, plus, scale, basis, unit, T}

@@ -2,7 +2,7 @@
 use mathlib.Core.Path.{_≡_, refl, sym, ap, _∙_}
 use Prim.Native.Nat.{ℕ, zero, suc, _+_, _-_, _*_, _≤_}
 use native.Mathlib.Omega.{arith}
-use Rattle.algebra.specs.Numbers.{factorial, series}
+use Rattle.lists.specs.Numbers.{factorial, series}
 use Rattle.algebra.specs.Cost.{costLine, cost}
 use Rattle.algebra.specs.Method.{Letters}
 use Rattle.algebra.proofs.Counts.{cost-c}

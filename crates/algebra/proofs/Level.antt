@@ -1,13 +1,13 @@
--- One level of the nested method is a row of m + 1 blocks, by the four lines' conditions on k. Without any law of a ring. Rests on Blocks.
+-- One level of the nested method is a row of m + 1 blocks, by the four lines' conditions on k. Without any law of a ring. Rests on lists' Blocks.
 use mathlib.Core.Path.{_≡_, refl, sym, ap, ap₂, _∙_}
 use mathlib.Core.List.{List, _++_}
 use Prim.Native.Nat.{ℕ, zero, suc, _+_, _-_, _≤_, _<_}
 use native.Mathlib.Omega.{arith}
 use Rattle.ring.specs.Ring.{Ops}
-use Rattle.algebra.specs.Numbers.{factorial}
-use Rattle.algebra.specs.Blocks.{block, blocks}
+use Rattle.lists.specs.Numbers.{factorial}
+use Rattle.lists.specs.Blocks.{block, blocks}
+use Rattle.lists.proofs.Blocks.{blocks-add, blocks-cong}
 use Rattle.algebra.specs.Nested.{Counted, free, _⧺_, row, _⊞_, _⊠_, sumRow, part, level}
-use Rattle.algebra.proofs.Blocks.{blocks-add, blocks-cong}
 
 pub row-value : {A : Type 0} (a n : ℕ) (f : ℕ → Counted A) → row a n f .value ≡ blocks n (λ i. f (a + i) .value)
 unfolding row blocks free _⧺_

@@ -3,8 +3,6 @@ pub mod Vectors
 pub mod Agreement
 -- lists and sums
 pub mod Lists
-pub mod Series
-pub mod Blocks
 pub mod Functions
 pub mod Ranges
 -- the order of the coefficients
@@ -24,6 +22,8 @@ pub mod Relations
 pub mod Coefficients
 pub mod CoefficientActions
 pub mod Elements
+pub mod Unit
+pub mod WordSlices
 pub mod Laws
 pub mod Hecke
 pub mod Formula

@@ -1,4 +1,4 @@
--- Lengths and entries of sums and multiples, coefficient by coefficient, for any operations. Rests on perms' Range.
+-- Lengths and entries of sums and multiples, coefficient by coefficient, for any operations. Rests on lists' Range.
 use mathlib.Core.Path.{_≡_, refl, ap}
 use mathlib.Core.List.{List, [], _∷_}
 use Prim.Native.Nat.{ℕ, zero, suc, _<_}
@@ -6,7 +6,7 @@ use native.Mathlib.Nat.{le-of-suc-le-suc}
 use native.Mathlib.Omega.{arith}
 use lib.ListN.{length, getD, length-map}
 use Rattle.ring.specs.Ring.{Ops}
-use Rattle.perms.proofs.Range.{getD-map}
+use Rattle.lists.proofs.Range.{getD-map}
 use Rattle.algebra.specs.Element.{plus, scale}
 
 module _ (A : Type 0) (o : Ops A) where

@@ -5,10 +5,10 @@ use mathlib.Core.List.{List, [], _∷_, map, map-map}
 use Prim.Native.Nat.{ℕ, suc}
 use lib.ListN.{getD, List·getD-map}
 use Rattle.ring.specs.Ring.{Ops, Hom}
-use Rattle.perms.specs.Lists.{same, less, range}
+use Rattle.lists.specs.Lists.{same, less, range}
+use Rattle.lists.specs.Numbers.{factorial}
 use Rattle.perms.specs.Permutation.{product, identity, generator, len}
 use Rattle.perms.specs.Tower.{towerOf, standard}
-use Rattle.algebra.specs.Numbers.{factorial}
 use Rattle.algebra.specs.Place.{place, perms}
 use Rattle.algebra.specs.Element.{coefficient, element, plus, scale, sumOver, basis, unit, T}
 use Rattle.algebra.specs.Product.{minusOne, basisLetter, letter, act, times}

@@ -5,12 +5,12 @@ use Prim.Native.Nat.{ℕ, zero, suc, _+_, _-_, _≤_}
 use native.Mathlib.Omega.{arith}
 use lib.ListN.{length}
 use Rattle.ring.specs.Ring.{Ops, Ring}
-use Rattle.perms.specs.Lists.{range}
+use Rattle.lists.specs.Lists.{range}
+use Rattle.lists.specs.Numbers.{factorial}
+use Rattle.lists.specs.Blocks.{block}
 use Rattle.perms.specs.Tower.{cycle}
 use Rattle.perms.specs.Laws.{a}
 use Rattle.perms.proofs.CycleReduced.{cycle-shortest}
-use Rattle.algebra.specs.Numbers.{factorial}
-use Rattle.algebra.specs.Blocks.{block}
 use Rattle.algebra.specs.Element.{sumOver}
 use Rattle.algebra.specs.Product.{act, times}
 use Rattle.algebra.specs.Method.{Method}

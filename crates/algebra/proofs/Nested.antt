@@ -8,16 +8,16 @@ use Rattle.ring.specs.Ring.{Ops, Ring}
 use Rattle.ring.specs.Sum.{sum}
 use Rattle.ring.proofs.Ring.{add-zero}
 use Rattle.ring.proofs.Combination.{comb}
-use Rattle.perms.specs.Lists.{range}
+use Rattle.lists.specs.Lists.{range}
+use Rattle.lists.specs.Numbers.{factorial, series}
+use Rattle.lists.specs.Blocks.{block}
+use Rattle.lists.proofs.Blocks.{block-length}
 use Rattle.perms.specs.Permutation.{identity}
 use Rattle.perms.specs.Tower.{towerOf, cycle, cycles, standard}
-use Rattle.algebra.specs.Numbers.{factorial, series}
-use Rattle.algebra.specs.Blocks.{block}
 use Rattle.algebra.specs.Place.{place, perms}
 use Rattle.algebra.specs.Element.{coefficient, scale, sumOver}
 use Rattle.algebra.specs.Product.{act, times}
 use Rattle.algebra.specs.Nested.{Counted, free, onward, _⊠_, sumRow, nestedAct, nested}
-use Rattle.algebra.proofs.Blocks.{block-length}
 use Rattle.algebra.proofs.Words.{Rw}
 use Rattle.algebra.proofs.Convolution.{prod}
 use Rattle.algebra.proofs.CoefficientActions.{act-length, times-length}

@@ -6,16 +6,16 @@ use native.Mathlib.Omega.{arith}
 use lib.ListN.{length}
 use Rattle.ring.specs.Ring.{Ops, Ring}
 use Rattle.ring.specs.Sum.{sum}
-use Rattle.perms.specs.Lists.{range}
+use Rattle.lists.specs.Lists.{range}
+use Rattle.lists.specs.Numbers.{factorial}
+use Rattle.lists.specs.Blocks.{block}
+use Rattle.lists.proofs.Blocks.{block-length, by-blocks}
 use Rattle.perms.specs.Tower.{cycle}
 use Rattle.perms.proofs.Word.{cycle-add}
-use Rattle.algebra.specs.Numbers.{factorial}
-use Rattle.algebra.specs.Blocks.{block}
 use Rattle.algebra.specs.Element.{plus, scale, sumOver}
 use Rattle.algebra.specs.Product.{letter, act}
 use Rattle.algebra.specs.Nested.{Counted, free, _⊞_, _⊠_, sumRow, part, level, nestedAct}
 use Rattle.algebra.specs.Method.{Proposition3-2}
-use Rattle.algebra.proofs.Blocks.{block-length, by-blocks}
 use Rattle.algebra.proofs.CoefficientActions.{act-length}
 use Rattle.algebra.proofs.Proposition.{proposition}
 use Rattle.algebra.proofs.Level.{level-blocks}

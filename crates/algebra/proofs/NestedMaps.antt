@@ -1,15 +1,15 @@
--- The nested method commutes with a map of ring operations, value and count; so every definition does. Rests on Blocks and Maps.
+-- The nested method commutes with a map of ring operations, value and count; so every definition does. Rests on Maps and lists' Blocks.
 use mathlib.Core.Path.{_≡_, refl, sym, ap, ap₂, _∙_, fun-ext}
 use mathlib.Core.List.{List, map, map-append}
 use Prim.Native.Nat.{ℕ, zero, suc, _+_, _-_}
 use lib.ListN.{length, getD, length-map, List·getD-map}
 use Rattle.ring.specs.Ring.{Ops, Hom}
-use Rattle.algebra.specs.Numbers.{factorial}
-use Rattle.algebra.specs.Blocks.{block}
+use Rattle.lists.specs.Numbers.{factorial}
+use Rattle.lists.specs.Blocks.{block}
+use Rattle.lists.proofs.Blocks.{map-block}
 use Rattle.algebra.specs.Element.{plus, scale}
 use Rattle.algebra.specs.Nested.{both, Counted, free, onward, _⧺_, row, _⊞_, _⊠_, sumRow, part, level, nestedAct, nested}
 use Rattle.algebra.specs.Maps.{mapped, Maps}
-use Rattle.algebra.proofs.Blocks.{map-block}
 use Rattle.algebra.proofs.Maps.{map-coefficient, map-element, map-plus, map-scale, map-sumOver, map-basis, map-unit, map-T, map-minusOne, map-basisLetter, map-letter, map-act, map-times}
 
 -- ---- rows

@@ -8,7 +8,7 @@ use mathlib.Core.Path.{_≡_, refl, sym, ap, ap₂, _∙_, subst}
 use mathlib.Core.List.{List, [], _∷_, map}
 use Prim.Native.Nat.{ℕ}
 use lib.ListN.{length, length-map}
-use Rattle.perms.specs.Lists.{All}
+use Rattle.lists.specs.Lists.{All}
 use Rattle.algebra.specs.Element.{Element}
 
 abbrev pub any : {A : Type 0} → A → Type 0

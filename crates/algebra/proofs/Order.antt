@@ -1,4 +1,4 @@
--- What document 01 says of the order of the coefficients: the record `Order` for every rank. Rests on Blocks, Enumeration, Place and Places.
+-- What document 01 says of the order of the coefficients: the record `Order` for every rank. Rests on Enumeration, Place, Places and lists' Blocks.
 use mathlib.Core.Path.{_≡_, sym, ap, _∙_}
 use mathlib.Core.List.{List}
 use Prim.Native.Nat.{ℕ, suc, _+_, _*_, _≤_}
@@ -6,13 +6,13 @@ use native.Mathlib.Omega.{arith}
 use lib.ListN.{length, getD, drop}
 use lib.Seq.{getD-take, getD-drop}
 use Rattle.ring.specs.Ring.{Ops}
+use Rattle.lists.specs.Numbers.{factorial}
+use Rattle.lists.specs.Blocks.{block, blocks}
+use Rattle.lists.proofs.Blocks.{block-length, by-blocks}
 use Rattle.perms.specs.Permutation.{Perm}
-use Rattle.algebra.specs.Numbers.{factorial}
-use Rattle.algebra.specs.Blocks.{block, blocks}
 use Rattle.algebra.specs.Place.{place, join}
 use Rattle.algebra.specs.Element.{coefficient}
 use Rattle.algebra.specs.Laws.{Order}
-use Rattle.algebra.proofs.Blocks.{block-length, by-blocks}
 use Rattle.algebra.proofs.Enumeration.{perms-perm}
 use Rattle.algebra.proofs.Place.{place-join, place-below}
 use Rattle.algebra.proofs.Places.{length-perms, place-at, at-place}

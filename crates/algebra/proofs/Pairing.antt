@@ -16,7 +16,10 @@ use Rattle.ring.proofs.Ring.{add-zero, mul-zero}
 use Rattle.ring.proofs.Sum.{sum-map, sum-append, sum-mul}
 use Rattle.ring.proofs.Hom.{hom-sum}
 use Rattle.ring.proofs.Modular.{words-ring, words-hom}
-use Rattle.perms.specs.Lists.{range, tally}
+use Rattle.lists.specs.Lists.{range, tally}
+use Rattle.lists.specs.Numbers.{factorial, series}
+use Rattle.lists.specs.Blocks.{block, blocks}
+use Rattle.lists.proofs.Blocks.{map-block}
 use Rattle.perms.specs.Permutation.{Perm, identity, below, len}
 use Rattle.perms.specs.Tower.{cycle, towerOf, standard}
 use Rattle.perms.specs.Extend.{extend}
@@ -24,12 +27,9 @@ use Rattle.perms.proofs.Split.{Tail, perm-extend}
 use Rattle.perms.proofs.Word.{length-cycle}
 use Rattle.perms.proofs.Standard.{standard-extend}
 use Rattle.perms.proofs.Lengths.{standard-shortest}
-use Rattle.algebra.specs.Numbers.{factorial, series}
-use Rattle.algebra.specs.Blocks.{block, blocks}
 use Rattle.algebra.specs.Place.{place, join, perms}
 use Rattle.algebra.specs.Element.{Element, coefficient}
 use Rattle.algebra.specs.Pairing.{power, pairing}
-use Rattle.algebra.proofs.Blocks.{map-block}
 use Rattle.algebra.proofs.Functions.{sum-all}
 use Rattle.algebra.proofs.Enumeration.{join-extend, perms-perm}
 use Rattle.algebra.proofs.Order.{coefficient-block}

@@ -1,20 +1,20 @@
 -- The place of u a(m + 1, k) is that of u plus k times (m + 1)!. So a place of rank m is below (m + 1)!, and a permutation is known by its place.
--- Rests on Enumeration, Series and perms' Tower.
+-- Rests on Enumeration, lists' Series and perms' Tower.
 use mathlib.Core.Path.{_≡_, sym, ap, ap₂, _∙_}
 use mathlib.Core.List.{List}
 use Prim.Native.Nat.{ℕ, zero, suc, pred, _+_, _-_, _*_, _/_, _%_, _≤_, _<_}
 use native.Mathlib.Omega.{arith}
 use lib.ListN.{length}
 use lib.Arith.{digits-lt, digits-div, digits-mod}
+use Rattle.lists.specs.Numbers.{factorial, series}
+use Rattle.lists.proofs.Series.{series-cong}
 use Rattle.perms.specs.Permutation.{Perm}
 use Rattle.perms.specs.Extend.{extend}
 use Rattle.perms.specs.Tower.{entry}
 use Rattle.perms.proofs.Extend.{length-extend}
 use Rattle.perms.proofs.Split.{Tail, perm-zero}
 use Rattle.perms.proofs.Tower.{entry-extend, entry-last}
-use Rattle.algebra.specs.Numbers.{factorial, series}
 use Rattle.algebra.specs.Place.{place, join}
-use Rattle.algebra.proofs.Series.{series-cong}
 use Rattle.algebra.proofs.Enumeration.{join-extend, Joined, joined}
 
 -- ---- the place of a joined permutation

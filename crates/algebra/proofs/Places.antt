@@ -1,19 +1,19 @@
 -- The places of `perms m` are 0, 1, .. up to (m + 1)! - 1, in this order. So there are (m + 1)! permutations of rank m, each at its place.
--- Rests on Place and Blocks.
+-- Rests on Place and lists' Blocks.
 use mathlib.Core.Path.{_≡_, refl, sym, ap, _∙_}
 use mathlib.Core.List.{List, [], _++_, map, map-map}
 use Prim.Native.Nat.{ℕ, zero, suc, _+_, _*_, _<_}
 use native.Mathlib.Nat.{zero-add, zero-mul, suc-mul}
 use native.Mathlib.Omega.{arith}
 use lib.ListN.{length, getD, length-map, List·getD-map}
-use Rattle.perms.specs.Lists.{range}
+use Rattle.lists.specs.Lists.{range}
+use Rattle.lists.specs.Numbers.{factorial, series}
+use Rattle.lists.specs.Blocks.{blocks}
+use Rattle.lists.proofs.Range.{length-range, getD-range, getD-map, range-append, range-shift}
+use Rattle.lists.proofs.All.{map-all, all-getD}
+use Rattle.lists.proofs.Blocks.{map-blocks, blocks-cong}
 use Rattle.perms.specs.Permutation.{Perm, identity}
-use Rattle.perms.proofs.Range.{length-range, getD-range, getD-map, range-append, range-shift}
-use Rattle.algebra.specs.Numbers.{factorial, series}
-use Rattle.algebra.specs.Blocks.{blocks}
 use Rattle.algebra.specs.Place.{place, join, perms}
-use Rattle.perms.proofs.All.{map-all, all-getD}
-use Rattle.algebra.proofs.Blocks.{map-blocks, blocks-cong}
 use Rattle.algebra.proofs.Enumeration.{perms-perm}
 use Rattle.algebra.proofs.Place.{place-join, place-below, place-injective}
 

@@ -5,16 +5,16 @@ use Prim.Native.Nat.{ℕ, zero, suc, _+_, _-_, _≤_, _<_}
 use native.Mathlib.Omega.{arith}
 use lib.ListN.{length}
 use Rattle.ring.specs.Ring.{Ops, Ring}
-use Rattle.perms.specs.Lists.{range}
+use Rattle.lists.specs.Lists.{range}
+use Rattle.lists.specs.Numbers.{factorial}
+use Rattle.lists.specs.Blocks.{block}
+use Rattle.lists.proofs.Range.{mem-range}
 use Rattle.perms.specs.Tower.{cycle}
 use Rattle.perms.specs.Extend.{extend}
 use Rattle.perms.proofs.Word.{word-cycle}
-use Rattle.algebra.specs.Numbers.{factorial}
-use Rattle.algebra.specs.Blocks.{block}
 use Rattle.algebra.specs.Element.{coefficient, plus, scale, sumOver}
 use Rattle.algebra.specs.Product.{act}
 use Rattle.algebra.specs.Method.{Proposition3-2}
-use Rattle.perms.proofs.Range.{mem-range}
 use Rattle.algebra.proofs.Enumeration.{join-extend}
 use Rattle.algebra.proofs.Words.{Rw}
 use Rattle.algebra.proofs.Elements.{Has, has-own, has-eq, has-scale, has-plus, has-act, has-block, has-sumOver, equal-elements}

@@ -1,4 +1,4 @@
--- Sums over a range of numbers: terms that are equal in the range, and, in a commutative ring, the last term apart. Rests on ring's Sum and perms' Range.
+-- Sums over a range of numbers: terms that are equal in the range, and, in a commutative ring, the last term apart. Rests on ring's Sum and lists' Range.
 use mathlib.Core.Path.{_≡_, sym, ap, _∙_}
 use Prim.Native.Nat.{ℕ, zero, suc, _+_, _≤_, _<_}
 use native.Mathlib.Omega.{arith}
@@ -6,8 +6,8 @@ use Rattle.ring.specs.Ring.{Ops, Ring}
 use Rattle.ring.specs.Sum.{sum}
 use Rattle.ring.proofs.Ring.{add-zero}
 use Rattle.ring.proofs.Sum.{sum-cong}
-use Rattle.perms.specs.Lists.{range}
-use Rattle.perms.proofs.Range.{mem-range}
+use Rattle.lists.specs.Lists.{range}
+use Rattle.lists.proofs.Range.{mem-range}
 
 module _ (A : Type 0) (o : Ops A) where
   pub sum-range : (a n : ℕ) (f g : ℕ → A) → ((i : ℕ) → a ≤ i → i < a + n → f i ≡ g i) → sum A o (range a n) f ≡ sum A o (range a n) g

@@ -10,18 +10,18 @@ use Rattle.ring.specs.Ring.{Ops, Ring}
 use Rattle.ring.specs.Sum.{sum}
 use Rattle.ring.proofs.Sum.{sum-map, sum-append}
 use Rattle.ring.proofs.Combination.{comb}
-use Rattle.perms.specs.Lists.{range}
+use Rattle.lists.specs.Lists.{range}
+use Rattle.lists.specs.Numbers.{factorial}
+use Rattle.lists.specs.Blocks.{block, blocks}
+use Rattle.lists.proofs.Range.{mem-range}
 use Rattle.perms.specs.Permutation.{Perm}
 use Rattle.perms.specs.Tower.{cycle, towerOf, standard}
 use Rattle.perms.proofs.Word.{word-cycle}
 use Rattle.perms.proofs.Standard.{standard-extend}
-use Rattle.algebra.specs.Numbers.{factorial}
-use Rattle.algebra.specs.Blocks.{block, blocks}
 use Rattle.algebra.specs.Place.{join, perms}
 use Rattle.algebra.specs.Element.{coefficient, sumOver}
 use Rattle.algebra.specs.Product.{act, times}
 use Rattle.algebra.proofs.Functions.{sum-all}
-use Rattle.perms.proofs.Range.{mem-range}
 use Rattle.algebra.proofs.Ranges.{sum-range, sum-snoc}
 use Rattle.algebra.proofs.Enumeration.{join-extend, perms-perm}
 use Rattle.algebra.proofs.Words.{Rw, Rw-append, Rw-comb}

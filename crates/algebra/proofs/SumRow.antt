@@ -7,11 +7,11 @@ use lib.ListN.{length}
 use Rattle.ring.specs.Ring.{Ops, Ring}
 use Rattle.ring.specs.Sum.{sum}
 use Rattle.ring.proofs.Ring.{add-zero}
-use Rattle.perms.specs.Lists.{range}
-use Rattle.algebra.specs.Numbers.{factorial}
+use Rattle.lists.specs.Lists.{range}
+use Rattle.lists.specs.Numbers.{factorial}
+use Rattle.lists.proofs.Range.{mem-range}
 use Rattle.algebra.specs.Element.{coefficient, sumOver}
 use Rattle.algebra.specs.Nested.{Counted, _⊞_, sumRow}
-use Rattle.perms.proofs.Range.{mem-range}
 use Rattle.algebra.proofs.Ranges.{sum-range, sum-snoc}
 use Rattle.algebra.proofs.Elements.{Has, has-own, has-eq, has-plus, has-sumOver, equal-elements}
 

@@ -8,7 +8,7 @@ use Prim.Native.Nat.{ℕ, zero, suc, _+_, _*_, _≤_, _<_}
 use native.Mathlib.Omega.{arith}
 use lib.ListN.{length, length-append}
 use Rattle.ring.specs.Ring.{Ops}
-use Rattle.algebra.specs.Numbers.{series}
+use Rattle.lists.specs.Numbers.{series}
 use Rattle.algebra.specs.Element.{plus, scale}
 use Rattle.algebra.specs.Nested.{Count, both, Counted, free, onward, _⧺_, row, _⊞_, _⊠_, sumRow}
 use Rattle.algebra.proofs.Lists.{plus-length, scale-length}

@@ -8,7 +8,7 @@
 --
 -- At rank 0 there is a(0, 0) alone, which takes nothing.
 use Prim.Native.Nat.{ℕ, zero, suc, _+_, _-_, _*_}
-use Rattle.algebra.specs.Numbers.{factorial, series}
+use Rattle.lists.specs.Numbers.{factorial, series}
 
 -- ---- sums and products together
 

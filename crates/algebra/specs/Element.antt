@@ -17,9 +17,9 @@ use mathlib.Core.List.{List, [], _∷_, map}
 use Prim.Native.Nat.{ℕ, suc}
 use lib.ListN.{length, getD}
 use Rattle.ring.specs.Ring.{Ops}
-use Rattle.perms.specs.Lists.{same, range, All}
+use Rattle.lists.specs.Lists.{same, range, All}
+use Rattle.lists.specs.Numbers.{factorial}
 use Rattle.perms.specs.Permutation.{identity, generator}
-use Rattle.algebra.specs.Numbers.{factorial}
 use Rattle.algebra.specs.Place.{place, perms}
 
 pub record Element {A : Type 0} (ok : A → Type 0) (m : ℕ) (h : List A) : Type 0 where

@@ -16,10 +16,10 @@ use mathlib.Core.List.{List, []}
 use Prim.Native.Nat.{ℕ, suc, _+_, _≤_, _<_}
 use lib.ListN.{length, getD}
 use Rattle.ring.specs.Ring.{Ops}
-use Rattle.perms.specs.Lists.{All}
+use Rattle.lists.specs.Lists.{All}
+use Rattle.lists.specs.Numbers.{factorial}
+use Rattle.lists.specs.Blocks.{block, blocks}
 use Rattle.perms.specs.Permutation.{Perm, Letter, Shortest}
-use Rattle.algebra.specs.Numbers.{factorial}
-use Rattle.algebra.specs.Blocks.{block, blocks}
 use Rattle.algebra.specs.Place.{place, join, perms}
 use Rattle.algebra.specs.Element.{Element, coefficient, plus, scale, sumOver, basis, unit, T}
 use Rattle.algebra.specs.Product.{basisLetter, letter, act, times}

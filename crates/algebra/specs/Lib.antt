@@ -1,5 +1,3 @@
-pub mod Numbers
-pub mod Blocks
 pub mod Place
 pub mod Element
 pub mod Product

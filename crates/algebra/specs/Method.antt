@@ -11,11 +11,11 @@ use mathlib.Core.Path.{_≡_}
 use mathlib.Core.List.{List}
 use Prim.Native.Nat.{ℕ, suc, _+_, _-_, _*_, _≤_, _<_}
 use Rattle.ring.specs.Ring.{Ops}
-use Rattle.perms.specs.Lists.{range}
+use Rattle.lists.specs.Lists.{range}
+use Rattle.lists.specs.Numbers.{factorial}
+use Rattle.lists.specs.Blocks.{block}
 use Rattle.perms.specs.Tower.{cycle}
 use Rattle.perms.specs.Laws.{a}
-use Rattle.algebra.specs.Numbers.{factorial}
-use Rattle.algebra.specs.Blocks.{block}
 use Rattle.algebra.specs.Element.{Element, plus, scale, sumOver, basis}
 use Rattle.algebra.specs.Product.{act, times}
 use Rattle.algebra.specs.Nested.{operations, nestedAct, nested}

@@ -7,11 +7,11 @@
 use mathlib.Core.List.{List, [], _∷_, _++_, map}
 use Prim.Native.Nat.{ℕ, zero, suc, pred, _+_, _*_}
 use lib.ListN.{length}
+use Rattle.lists.specs.Numbers.{factorial, series}
+use Rattle.lists.specs.Blocks.{blocks}
 use Rattle.perms.specs.Permutation.{product, identity}
 use Rattle.perms.specs.Tower.{entry}
 use Rattle.perms.specs.Laws.{a}
-use Rattle.algebra.specs.Numbers.{factorial, series}
-use Rattle.algebra.specs.Blocks.{blocks}
 
 unfoldable pub place : List ℕ → ℕ
 place w = series 1 (pred (length w)) (λ j. entry j w * factorial j)

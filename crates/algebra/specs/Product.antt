@@ -9,7 +9,7 @@ use mathlib.Core.Bool.{cond}
 use mathlib.Core.List.{List, [], _∷_}
 use Prim.Native.Nat.{ℕ}
 use Rattle.ring.specs.Ring.{Ops}
-use Rattle.perms.specs.Lists.{less}
+use Rattle.lists.specs.Lists.{less}
 use Rattle.perms.specs.Permutation.{product, generator, len}
 use Rattle.perms.specs.Tower.{towerOf, standard}
 use Rattle.algebra.specs.Place.{perms}

@@ -7,10 +7,11 @@ use Prim.Native.Nat.{ℕ, suc, _^_, _≤_, _<_}
 use native.Mathlib.Omega.{arith}
 use lib.ListN.{length}
 use Rattle.ring.specs.Modular.{words}
-use Rattle.algebra.specs.Numbers.{factorial}
+use Rattle.lists.specs.Numbers.{factorial}
+use Rattle.refusals.specs.declared.Answer.{Answer}
 use Rattle.algebra.specs.Product.{minusOne, times}
-use Rattle.element_calls.specs.declared.Answer.{Answer}
-use Rattle.element_calls.specs.Calls.{needed, productCall}
+use Rattle.ranks.specs.Ranks.{needed}
+use Rattle.element_calls.specs.Calls.{productCall}
 use Rattle.element_calls.specs.Demand3.{E, Taken, Lawful}
 use Rattle.element_calls.proofs.Demand3.{demand-3, product-lent}
 use Rattle.associates.specs.Sizes.{Sizes}

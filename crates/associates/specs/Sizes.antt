@@ -3,8 +3,8 @@ use mathlib.Core.Path.{_≡_}
 use mathlib.Core.List.{List}
 use Prim.Native.Nat.{ℕ, suc, _≤_}
 use lib.ListN.{length}
-use Rattle.algebra.specs.Numbers.{factorial}
-use Rattle.element_calls.specs.Calls.{needed}
+use Rattle.lists.specs.Numbers.{factorial}
+use Rattle.ranks.specs.Ranks.{needed}
 
 pub record Sizes (m : ℕ) (h g k part left right scratch : List ℕ) : Type 0 where
   pub rank : m ≤ 6

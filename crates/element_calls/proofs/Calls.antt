@@ -1,30 +1,28 @@
--- How a call ends: its checks refuse it, or it is done; and what a product counts. Rests on algebra's Counts.
-use mathlib.Core.Path.{_≡_, refl, sym, ap, _∙_}
+-- How a call ends that no check refuses, and what a product counts. Rests on refusals' Ended and algebra's Counts.
+use mathlib.Core.Path.{_≡_, refl, ap, _∙_}
 use mathlib.Core.List.{List}
 use Prim.Native.Nat.{ℕ, _^_, _<_}
 use native.Mathlib.Omega.{arith}
 use Rattle.ring.specs.Modular.{words}
+use Rattle.refusals.specs.Refusals.{accepted, refused, ended}
+use Rattle.refusals.specs.declared.Verdict.{Verdict}
+use Rattle.refusals.specs.declared.Verdict.the-variants.{Accepted, Refused}
+use Rattle.refusals.specs.declared.Answer.{Answer}
+use Rattle.refusals.proofs.Ended.{ended-done}
 use Rattle.algebra.specs.Element.{Element}
 use Rattle.algebra.specs.Product.{minusOne}
 use Rattle.algebra.specs.Nested.{operations, nested}
 use Rattle.algebra.specs.Cost.{C}
 use Rattle.algebra.proofs.Counts.{counts}
-use Rattle.element_calls.specs.declared.Refusal.{Refusal}
-use Rattle.element_calls.specs.declared.Verdict.{Verdict}
-use Rattle.element_calls.specs.declared.Verdict.the-variants.{Accepted, Refused}
-use Rattle.element_calls.specs.declared.Answer.{Answer}
-use Rattle.element_calls.specs.Calls.{accepted, refused, write}
+use Rattle.element_calls.specs.Calls.{write}
 
 module _ {A : Type 0} where
-  pub write-refused : {v : Verdict} {why : Refusal} {a : Answer} (old new : A) (n : ℕ) → v ≡ Refused why → a ≡ refused why
-      → write v old new n ≡ record { answer = a; lent = old }
-  write-refused old new n e f = rw e (ap (λ b. record { answer = b; lent = old }) (sym f))
-
   pub write-done : {v : Verdict} {k : ℕ} {a : Answer} (old new last : A) (n : ℕ) → v ≡ Accepted → last ≡ new → k ≡ n → a ≡ accepted k
       → write v old new n ≡ record { answer = a; lent = last }
-  write-done old new last n e d g f = rw e (λ i. record { answer = sym (f ∙ ap accepted g) i; lent = sym d i })
+  write-done old new last n e d g f = ended-done refused old e (f ∙ ap accepted g) d
 
   pub write-verdict : (v : Verdict) (old new : A) (n : ℕ) → write v old new n .answer .verdict ≡ v
+  unfolding ended
   write-verdict Accepted old new n = refl
   write-verdict (Refused why) old new n = refl
 

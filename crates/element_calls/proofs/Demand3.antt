@@ -1,5 +1,5 @@
--- Demand 3 holds, with algebra's definitions as what the calls write. Rests on Verdicts, Calls, algebra's Modular and Bounds, and perms'
--- Tally and Reduced.
+-- Demand 3 holds, with algebra's definitions as what the calls write. Rests on Verdicts, Calls, algebra's Modular and Bounds, lists' Tally
+-- and perms' Reduced.
 use mathlib.Core.Path.{_≡_, refl, sym, ap, _∙_}
 use mathlib.Core.List.{List, [], _∷_}
 use Prim.Native.Nat.{ℕ, suc, _*_, _/_, _≤_}
@@ -7,11 +7,14 @@ use native.Mathlib.Nat.{mul-comm}
 use native.Mathlib.Omega.{arith}
 use lib.ListN.{length}
 use Rattle.ring.specs.Modular.{words}
-use Rattle.perms.specs.Lists.{less}
+use Rattle.lists.specs.Lists.{less}
+use Rattle.lists.specs.Numbers.{factorial}
+use Rattle.lists.proofs.Tally.{tally-size}
+use Rattle.refusals.specs.Refusals.{_then_, ended}
+use Rattle.refusals.specs.declared.Verdict.{Verdict}
+use Rattle.refusals.specs.declared.Verdict.the-variants.{Accepted}
 use Rattle.perms.specs.Permutation.{Perm, below, len, Word, Shortest}
-use Rattle.perms.proofs.Tally.{tally-size}
 use Rattle.perms.proofs.Reduced.{short-perm}
-use Rattle.algebra.specs.Numbers.{factorial}
 use Rattle.algebra.specs.Element.{plus, scale}
 use Rattle.algebra.specs.Product.{minusOne, act, times}
 use Rattle.algebra.specs.Nested.{operations, nested}
@@ -19,9 +22,7 @@ use Rattle.algebra.specs.Cost.{bound}
 use Rattle.algebra.specs.Laws.{defined}
 use Rattle.algebra.proofs.Modular.{word-hecke, word-closed}
 use Rattle.algebra.proofs.Bounds.{bounds}
-use Rattle.element_calls.specs.declared.Verdict.{Verdict}
-use Rattle.element_calls.specs.declared.Verdict.the-variants.{Accepted}
-use Rattle.element_calls.specs.Calls.{_then_, rankVerdict, sizeVerdict, scratchVerdict, wordVerdict, sumCall, scaleCall, actWordCall, productCall}
+use Rattle.element_calls.specs.Calls.{rankVerdict, sizeVerdict, scratchVerdict, wordVerdict, sumCall, scaleCall, actWordCall, productCall}
 use Rattle.element_calls.specs.Demand3.{E, Taken, Demand3}
 use Rattle.element_calls.proofs.Verdicts.{rank-taken, size-taken, scratch-taken, word-taken}
 use Rattle.element_calls.proofs.Calls.{write-verdict, product-counted}
@@ -37,7 +38,7 @@ module _ (m : ℕ) (h g result : List ℕ) where
   sum-verdict = write-verdict sumChecks _ _ _
 
   sum-lent : Taken (sumCall m h g result .answer) → sumCall m h g result .lent ≡ plus ℕ words h g
-  unfolding sumCall
+  unfolding sumCall ended
   sum-lent t = rw (sym sum-verdict ∙ t) refl
 
 module _ (m c : ℕ) (h result : List ℕ) where
@@ -49,7 +50,7 @@ module _ (m c : ℕ) (h result : List ℕ) where
   scale-verdict = write-verdict scaleChecks _ _ _
 
   scale-lent : Taken (scaleCall m c h result .answer) → scaleCall m c h result .lent ≡ scale ℕ words c h
-  unfolding scaleCall
+  unfolding scaleCall ended
   scale-lent t = rw (sym scale-verdict ∙ t) refl
 
 module _ (m q : ℕ) (x h : List ℕ) where
@@ -61,11 +62,11 @@ module _ (m q : ℕ) (x h : List ℕ) where
   act-verdict = write-verdict actChecks _ _ _
 
   act-lent : Taken (actWordCall m q x h .answer) → actWordCall m q x h .lent ≡ act ℕ words q (minusOne ℕ words q) m x h
-  unfolding actWordCall
+  unfolding actWordCall ended
   act-lent t = rw (sym act-verdict ∙ t) refl
 
   act-counted : Taken (actWordCall m q x h .answer) → actWordCall m q x h .answer .count ≡ length x * (3 * factorial (suc m) / 2)
-  unfolding actWordCall
+  unfolding actWordCall ended
   act-counted t = rw (sym act-verdict ∙ t) refl
 
 module _ (m q : ℕ) (h g result scratch : List ℕ) where
@@ -79,12 +80,12 @@ module _ (m q : ℕ) (h g result scratch : List ℕ) where
 
   pub product-lent : Taken (productCall m q h g result scratch .answer)
       → productCall m q h g result scratch .lent .result ≡ times ℕ words q (minusOne ℕ words q) m m h g
-  unfolding productCall
+  unfolding productCall ended
   product-lent t = rw (sym product-verdict ∙ t) refl
 
   product-counts : Taken (productCall m q h g result scratch .answer)
       → productCall m q h g result scratch .answer .count ≡ operations (nested ℕ words q (minusOne ℕ words q) m m h g .count)
-  unfolding productCall
+  unfolding productCall ended
   product-counts t = rw (sym product-verdict ∙ t) refl
 
 -- ---- a shortest word is within the limit
@@ -105,11 +106,11 @@ pub demand-3 : Demand3
 unfolding bound
 demand-3 m q rank hq = record {
   calls = defined ℕ words q (minusOne ℕ words q) m;
-  sum-taken = λ h g result a b c. sum-verdict m h g result ∙ rw (fits, size a, size b, size-taken m (length result) c) refl;
-  scale-taken = λ c h result a b. scale-verdict m c h result ∙ rw (fits, size a, size-taken m (length result) b) refl;
+  sum-taken = λ h g result a b c. sum-verdict m h g result ∙ rw (fits, size a, size b, size-taken m (length result) rank c) refl;
+  scale-taken = λ c h result a b. scale-verdict m c h result ∙ rw (fits, size a, size-taken m (length result) rank b) refl;
   act-taken = takes;
   product-taken = λ h g result scratch a b c n.
-      product-verdict m q h g result scratch ∙ rw (fits, size a, size b, size-taken m (length result) c, scratch-taken m (length scratch) n) refl;
+      product-verdict m q h g result scratch ∙ rw (fits, size a, size b, size-taken m (length result) rank c, scratch-taken m (length scratch) rank n) refl;
   sum-writes = sum-lent m;
   scale-writes = scale-lent m;
   act-writes = act-lent m q;
@@ -130,7 +131,7 @@ demand-3 m q rank hq = record {
     fits = rank-taken m rank
 
     size : {h : List ℕ} → E m h → sizeVerdict m (length h) ≡ Accepted
-    size {h} a = size-taken m (length h) (a .size)
+    size {h} a = size-taken m (length h) rank (a .size)
 
     takes : (x h : List ℕ) → Word m x → length x ≤ 4096 → E m h → Taken (actWordCall m q x h .answer)
     takes x h w n a = act-verdict m q x h ∙ rw (fits, size a, word-taken m x w n) refl

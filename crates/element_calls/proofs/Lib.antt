@@ -1,8 +1,6 @@
--- ranks and sizes
-mod Arms
-pub mod Sizes
 -- the calls
 pub mod Verdicts
 pub mod Calls
+pub mod Refusals
 -- demand 3
 pub mod Demand3

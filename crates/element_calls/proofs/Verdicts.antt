@@ -1,56 +1,25 @@
--- What acceptance says, and what is accepted: a rank up to 6, an element's slice, enough scratch, and a word. Rests on perms' Test, First and All.
-use mathlib.Core.Path.{_≡_, refl, sym, ap, _∙_}
-use mathlib.Core.Bool.{Bool, true, false, not, _||_}
+-- What acceptance says, and what is accepted: a rank up to 6, an element's slice, enough scratch, and a word. Rests on ranks' Sizes, lists'
+-- Test, First and All, and refusals' Verdicts.
+use mathlib.Core.Path.{_≡_, refl, sym, _∙_}
+use mathlib.Core.Bool.{Bool, false, not, _||_}
 use mathlib.Core.List.{List}
 use Prim.Native.Nat.{ℕ, suc, _≤_}
 use native.Mathlib.Omega.{arith}
 use lib.ListN.{length, getD}
-use Rattle.perms.specs.Lists.{same, less, first}
+use Rattle.lists.specs.Lists.{same, less, first}
+use Rattle.lists.specs.Numbers.{factorial}
+use Rattle.lists.proofs.Test.{same-yes, same-no, less-no, same-true, same-false, less-false, not-false, or-first, or-next}
+use Rattle.lists.proofs.All.{all-getD, all-index}
+use Rattle.lists.proofs.First.{passed, first-past}
+use Rattle.refusals.specs.Refusals.{_then_, unless}
+use Rattle.refusals.specs.declared.Refusal.the-variants as R
+use Rattle.refusals.specs.declared.Verdict.{Verdict}
+use Rattle.refusals.specs.declared.Verdict.the-variants.{Accepted}
+use Rattle.refusals.proofs.Verdicts.{accepts-first, accepts-next, accepts-unless}
 use Rattle.perms.specs.Permutation.{Letter, Word}
-use Rattle.perms.proofs.Test.{same-yes, same-no, less-no, same-true, same-false, less-false, not-false, or-first, or-next}
-use Rattle.perms.proofs.First.{passed, first-past}
-use Rattle.perms.proofs.All.{all-getD, all-index}
-use Rattle.algebra.specs.Numbers.{factorial}
-use Rattle.element_calls.specs.declared.Refusal.{Refusal}
-use Rattle.element_calls.specs.declared.Refusal.the-variants as R
-use Rattle.element_calls.specs.declared.Verdict.{Verdict}
-use Rattle.element_calls.specs.declared.Verdict.the-variants.{Accepted, Refused}
-use Rattle.element_calls.specs.Calls.{_then_, unless, rankVerdict, sizeVerdict, needed, scratchVerdict, firstBadLetter, wordVerdict}
-
--- ---- verdicts
-
--- 1 where a verdict accepts
-passes : Verdict → ℕ
-passes Accepted = 1
-passes (Refused why) = 0
-
-pub accepts-first : (a b : Verdict) → (a then b) ≡ Accepted → a ≡ Accepted
-accepts-first Accepted b e = refl
-accepts-first (Refused why) b e = e
-
-pub accepts-next : (a b : Verdict) → (a then b) ≡ Accepted → b ≡ Accepted
-unfolding passes
-accepts-next Accepted b e = e
-accepts-next (Refused why) b e = absurd (omega (arith, ap passes e))
-
-accepts-unless : (b : Bool) (why : Refusal) → unless b why ≡ Accepted → b ≡ false
-unfolding passes
-accepts-unless false why e = refl
-accepts-unless true why e = absurd (omega (arith, ap passes e))
-
-then-assoc : (a b c : Verdict) → ((a then b) then c) ≡ (a then b then c)
-then-assoc Accepted b c = refl
-then-assoc (Refused why) b c = refl
-
--- a check after two, three and four others
-pub then-third : {v : Verdict} (a b c : Verdict) → (a then b) ≡ v → (a then b then c) ≡ (v then c)
-then-third a b c e = simp (then-assoc) at (ap (λ v. v then c) e)
-
-pub then-fourth : {v : Verdict} (a b c d : Verdict) → (a then b then c) ≡ v → (a then b then c then d) ≡ (v then d)
-then-fourth a b c d e = simp (then-assoc) at (ap (λ v. v then d) e)
-
-pub then-fifth : {v : Verdict} (a b c d f : Verdict) → (a then b then c then d) ≡ v → (a then b then c then d then f) ≡ (v then f)
-then-fifth a b c d f e = simp (then-assoc) at (ap (λ v. v then f) e)
+use Rattle.ranks.specs.Ranks.{size, needed, scratchSize}
+use Rattle.ranks.proofs.Sizes.{size-is, scratch-size-is}
+use Rattle.element_calls.specs.Calls.{rankVerdict, sizeVerdict, scratchVerdict, firstBadLetter, wordVerdict}
 
 -- ---- the rank, an element, the scratch
 
@@ -62,52 +31,49 @@ pub rank-taken : (m : ℕ) → m ≤ 6 → rankVerdict m ≡ Accepted
 unfolding rankVerdict
 rank-taken m h = rw (less-no h) refl
 
-pub size-accepted : (m n : ℕ) → sizeVerdict m n ≡ Accepted → n ≡ factorial (suc m)
-unfolding sizeVerdict
-size-accepted m n e = same-true n (factorial (suc m)) (not-false _ (accepts-unless (not (same n (factorial (suc m)))) R.Size e))
+module _ (m n : ℕ) (low : m ≤ 6) where
+  pub size-accepted : sizeVerdict m n ≡ Accepted → n ≡ factorial (suc m)
+  unfolding sizeVerdict
+  size-accepted e = same-true n (size m) (not-false _ (accepts-unless (not (same n (size m))) R.Size e)) ∙ size-is m low
 
-pub size-taken : (m n : ℕ) → n ≡ factorial (suc m) → sizeVerdict m n ≡ Accepted
-unfolding sizeVerdict
-size-taken m n e = rw (same-yes e) refl
+  pub size-taken : n ≡ factorial (suc m) → sizeVerdict m n ≡ Accepted
+  unfolding sizeVerdict
+  size-taken e = rw (same-yes (e ∙ sym (size-is m low))) refl
 
-pub scratch-accepted : (m n : ℕ) → scratchVerdict m n ≡ Accepted → needed m ≤ n
-unfolding scratchVerdict
-scratch-accepted m n e = less-false n (needed m) (accepts-unless (less n (needed m)) R.Scratch e)
+  pub scratch-accepted : scratchVerdict m n ≡ Accepted → needed m ≤ n
+  unfolding scratchVerdict
+  scratch-accepted e = omega (arith, less-false n (scratchSize m) (accepts-unless (less n (scratchSize m)) R.Scratch e), scratch-size-is m low)
 
-pub scratch-taken : (m n : ℕ) → needed m ≤ n → scratchVerdict m n ≡ Accepted
-unfolding scratchVerdict
-scratch-taken m n h = rw (less-no h) refl
+  pub scratch-taken : needed m ≤ n → scratchVerdict m n ≡ Accepted
+  unfolding scratchVerdict
+  scratch-taken h = rw (less-no {x = n} {a = scratchSize m} (omega (arith, scratch-size-is m low))) refl
 
 -- the rank and one element, two and three
 pub one-accepted : (m a : ℕ) → (rankVerdict m then sizeVerdict m a) ≡ Accepted → (m ≤ 6) × (a ≡ factorial (suc m))
 one-accepted m a e =
-    let rank = rankVerdict m in let size = sizeVerdict m a in
-    (rank-accepted m (accepts-first rank size e), size-accepted m a (accepts-next rank size e))
+    let low = rank-accepted m (accepts-first (rankVerdict m) (sizeVerdict m a) e) in
+    (low, size-accepted m a low (accepts-next (rankVerdict m) (sizeVerdict m a) e))
 
 pub two-accepted : (m a b : ℕ) → (rankVerdict m then sizeVerdict m a then sizeVerdict m b) ≡ Accepted
     → (m ≤ 6) × (a ≡ factorial (suc m)) × (b ≡ factorial (suc m))
 two-accepted m a b e =
-    let last = sizeVerdict m b in let f = then-assoc (rankVerdict m) (sizeVerdict m a) last ∙ e in
-    let one = one-accepted m a (accepts-first (rankVerdict m then sizeVerdict m a) last f) in
-    (one .0, one .1, size-accepted m b (accepts-next (rankVerdict m then sizeVerdict m a) last f))
+    let one = rankVerdict m then sizeVerdict m a in let good = one-accepted m a (accepts-first one (sizeVerdict m b) e) in
+    (good .0, good .1, size-accepted m b (good .0) (accepts-next one (sizeVerdict m b) e))
 
 pub three-accepted : (m a b c : ℕ) → (rankVerdict m then sizeVerdict m a then sizeVerdict m b then sizeVerdict m c) ≡ Accepted
     → (m ≤ 6) × (a ≡ factorial (suc m)) × (b ≡ factorial (suc m)) × (c ≡ factorial (suc m))
 three-accepted m a b c e =
-    let two = rankVerdict m then sizeVerdict m a then sizeVerdict m b in let last = sizeVerdict m c in
-    let f = sym (then-fourth (rankVerdict m) (sizeVerdict m a) (sizeVerdict m b) last refl) ∙ e in
-    let good = two-accepted m a b (accepts-first two last f) in
-    (good .0, good .1, good .2, size-accepted m c (accepts-next two last f))
+    let two = rankVerdict m then sizeVerdict m a then sizeVerdict m b in let good = two-accepted m a b (accepts-first two (sizeVerdict m c) e) in
+    (good .0, good .1, good .2, size-accepted m c (good .0) (accepts-next two (sizeVerdict m c) e))
 
 -- and the scratch
 pub product-accepted : (m a b c n : ℕ)
     → (rankVerdict m then sizeVerdict m a then sizeVerdict m b then sizeVerdict m c then scratchVerdict m n) ≡ Accepted
     → (m ≤ 6) × (a ≡ factorial (suc m)) × (b ≡ factorial (suc m)) × (c ≡ factorial (suc m)) × (needed m ≤ n)
 product-accepted m a b c n e =
-    let three = rankVerdict m then sizeVerdict m a then sizeVerdict m b then sizeVerdict m c in let last = scratchVerdict m n in
-    let f = sym (then-fifth (rankVerdict m) (sizeVerdict m a) (sizeVerdict m b) (sizeVerdict m c) last refl) ∙ e in
-    let good = three-accepted m a b c (accepts-first three last f) in
-    (good .0, good .1, good .2, good .3, scratch-accepted m n (accepts-next three last f))
+    let three = rankVerdict m then sizeVerdict m a then sizeVerdict m b then sizeVerdict m c in
+    let good = three-accepted m a b c (accepts-first three (scratchVerdict m n) e) in
+    (good .0, good .1, good .2, good .3, scratch-accepted m n (good .0) (accepts-next three (scratchVerdict m n) e))
 
 -- ---- a word
 

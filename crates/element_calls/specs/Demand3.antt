@@ -11,15 +11,16 @@ use mathlib.Core.List.{List}
 use Prim.Native.Nat.{ℕ, suc, _*_, _/_, _^_, _≤_, _<_}
 use lib.ListN.{length}
 use Rattle.ring.specs.Modular.{words}
+use Rattle.lists.specs.Numbers.{factorial}
+use Rattle.refusals.specs.declared.Verdict.the-variants.{Accepted}
+use Rattle.refusals.specs.declared.Answer.{Answer}
 use Rattle.perms.specs.Permutation.{len, Word, Shortest}
-use Rattle.algebra.specs.Numbers.{factorial}
 use Rattle.algebra.specs.Element.{Element}
 use Rattle.algebra.specs.Product.{minusOne}
 use Rattle.algebra.specs.Cost.{C}
 use Rattle.algebra.specs.Laws.{Calls, Closed, Hecke}
-use Rattle.element_calls.specs.declared.Verdict.the-variants.{Accepted}
-use Rattle.element_calls.specs.declared.Answer.{Answer}
-use Rattle.element_calls.specs.Calls.{needed, sumCall, scaleCall, actWordCall, productCall}
+use Rattle.ranks.specs.Ranks.{needed}
+use Rattle.element_calls.specs.Calls.{sumCall, scaleCall, actWordCall, productCall}
 
 abbrev pub E : ℕ → List ℕ → Type 0
 E m h = Element (λ x. x < 2 ^ 64) m h

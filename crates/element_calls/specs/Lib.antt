@@ -1,2 +1,3 @@
 pub mod Calls
+pub mod Claims
 pub mod Demand3

@@ -1,5 +1,5 @@
--- The three parts of x that `act` and `letter` pass to their calls: what the calls require, and x as a whole when the parts are back. Rests on Parts,
--- Pieces and algebra's Blocks.
+-- The three parts of x that `act` and `letter` pass to their calls: what the calls require, and x as a whole when the parts are back. Rests on Pieces,
+-- and lists' Parts and Blocks.
 --
 --   Cut m j l b high x w   what they have where they cut x into blocks of b words, the third part from `high` on; w is the work slice, for a letter []
 use mathlib.Core.Path.{_≡_, sym, ap, _∙_}
@@ -10,11 +10,11 @@ use native.Mathlib.Omega.{arith}
 use lib.ListN.{length, take, drop, length-append, length-drop}
 use lib.Seq.{take-at, drop-drop, take-all, length-take-le}
 use borrow.Rule.Slice.PartMut.{midOf, putMid, drop-put, mid-len, same-len-mid}
-use Rattle.algebra.specs.Numbers.{factorial}
-use Rattle.algebra.specs.Blocks.{block, blocks}
-use Rattle.algebra.proofs.Blocks.{blocks-cong}
+use Rattle.lists.specs.Numbers.{factorial}
+use Rattle.lists.specs.Blocks.{block, blocks}
+use Rattle.lists.proofs.Blocks.{blocks-cong}
+use Rattle.lists.proofs.Parts.{below-block, element-blocks, next-block, rest-size, rest-put}
 use Rattle.hecke.specs.Steps.{acted, turned, ActPre, EachPre, MiddlePre}
-use Rattle.hecke.proofs.Parts.{below-block, element-blocks, next-block, rest-size, rest-put}
 use Rattle.hecke.proofs.Pieces.{block-take, turned-cong, act-pieces}
 
 -- ---- three parts in a row come back one after another

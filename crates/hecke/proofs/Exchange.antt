@@ -8,7 +8,7 @@ use native.Mathlib.Nat.{le-add-right}
 use native.Mathlib.Omega.{arith}
 use lib.ListN.{length, getD, set, take, drop, length-drop, length-set, take-append-drop}
 use lib.Seq.{length-take-le, getD-take, getD-drop, take-set-lt, take-set-le, drop-set-lt, drop-set-add}
-use Rattle.hecke.proofs.Loops.{WrittenFrom, from-none, from-more, from-all}
+use Rattle.word_lists.proofs.Loops.{WrittenFrom, from-none, from-more, from-all}
 
 pub record Exchanged (b : ℕ) (s t x₀ x : List ℕ) (i : ℕ) : Type 0 where
   pub same : length x ≡ length x₀

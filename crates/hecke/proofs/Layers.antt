@@ -1,5 +1,5 @@
 -- The product of two elements, a summand for each block of the right factor: what `layer` and `times` require of each other, a right factor of rank 1, the sum
--- of the first k summands, and the whole. Rests on Parts, Sums and Pieces.
+-- of the first k summands, and the whole. Rests on Sums and Pieces, and lists' Parts.
 --
 --   summand q r m l p h g k    (h g_k) T_a(l+1,k) for the block g_k of g, of rank l and p words
 --   Summing s f result₀ result scratch₀ scratch k
@@ -11,15 +11,17 @@ use native.Mathlib.Nat.{mul-le-mul-right}
 use native.Mathlib.Numerals.{add-one}
 use native.Mathlib.Omega.{arith}
 use lib.ListN.{length, getD, take, drop}
-use lib.Seq.{getD-take, getD-drop}
+use lib.Seq.{length-take-le, getD-take, getD-drop}
 use borrow.Rule.Slice.PartMut.{putMid, take-put, same-len-mid}
 use Rattle.ring.specs.Modular.{words, modular}
-use Rattle.algebra.specs.Numbers.{factorial}
-use Rattle.algebra.specs.Blocks.{block}
+use Rattle.lists.specs.Numbers.{factorial}
+use Rattle.lists.specs.Blocks.{block}
+use Rattle.lists.proofs.Parts.{fits-block, element-blocks, part-block, part-size, whole-block, front-put, rest-size}
 use Rattle.algebra.specs.Element.{plus, scale}
 use Rattle.algebra.specs.Nested.{free, onward, _⊠_, nested}
+use Rattle.word_lists.specs.Into.{scaleInto}
+use Rattle.word_lists.proofs.Into.{scale-into}
 use Rattle.hecke.specs.Steps.{sums, collected, acted, multiplied, ActPre, TimesPre, LayerPre, LayerPost}
-use Rattle.hecke.proofs.Parts.{fits-block, element-blocks, part-block, part-size, whole-block, front-put, rest-size}
 use Rattle.hecke.proofs.Sums.{sums-more, collected-sums, sumRow-sums}
 use Rattle.hecke.proofs.Pieces.{acted-none}
 
@@ -73,10 +75,14 @@ pub size-one : (l : ℕ) → l ≡ 0 → factorial (suc l) ≡ 1
 unfolding factorial
 size-one l e = ap (λ (n : ℕ). factorial (suc n)) e
 
-pub multiplied-zero : (q r m l : ℕ) (h g : List ℕ) → l ≡ 0 → scale ℕ words (getD g 0 0) h ≡ multiplied q r m l h g
+multiplied-zero : (q r m l : ℕ) (h g : List ℕ) → l ≡ 0 → scale ℕ words (getD g 0 0) h ≡ multiplied q r m l h g
 unfolding multiplied nested _⊠_ free words modular
 multiplied-zero q r m zero h g e = refl
 multiplied-zero q r m (suc l) h g e = absurd (omega arith)
+
+pub zero-whole : (q r : ℕ) {m l : ℕ} {result scratch h g y : List ℕ} → TimesPre m l result scratch h g → l ≡ 0 → y ≡ scaleInto result (getD g 0 0) h
+    → y ≡ multiplied q r m l h g
+zero-whole q r {m} {l} {result} {h = h} {g} c none e = e ∙ scale-into result _ h (c .result ∙ sym (c .left)) ∙ multiplied-zero q r m l h g none
 
 abbrev pub summand : (q r m l p : ℕ) (h g : List ℕ) → ℕ → List ℕ
 summand q r m l p h g k = acted q r m (suc l) k (multiplied q r m l h (block p k g))
@@ -116,12 +122,14 @@ multiplied-one q r m h g =
 
 -- the first s words of scratch came back as v
 pub one-whole : (q r : ℕ) {m s : ℕ} {result scratch h g v y z t : List ℕ} → TimesPre m 1 result scratch h g → s ≡ factorial (suc m)
-    → length v ≡ length (take (s - 0) scratch) → v ≡ scale ℕ words (getD g 0 0) h → y ≡ scale ℕ words (getD g 1 0) h
+    → length v ≡ length (take (s - 0) scratch) → v ≡ scaleInto (take (s - 0) scratch) (getD g 0 0) h → y ≡ scaleInto result (getD g 1 0) h
     → z ≡ acted q r m 1 1 y → length z ≡ length result → t ≡ plus ℕ words (take (length z) (putMid 0 (s - 0) scratch v)) z → t ≡ multiplied q r m 1 h g
-one-whole q r {m} {s} {scratch = scratch} {h = h} {g = g} {v = v} c es sv ev ey ez sz e =
+one-whole q r {m} {s} {result} {scratch} {h} {g} {v} c es sv ev ey ez sz e =
     let room : s ≤ length scratch = omega (arith, c .room) in
+    let lent : length (take (s - 0) scratch) ≡ length h = length-take-le (s - 0) scratch (omega arith) ∙ omega (arith, c .left) in
     let first = front-put s scratch v _ (sz ∙ c .result ∙ sym es) room sv in
-    e ∙ (λ i. plus ℕ words ((first ∙ ev) i) ((ez ∙ ap (acted q r m 1 1) ey) i)) ∙ sym (multiplied-one q r m h g)
+    e ∙ (λ i. plus ℕ words ((first ∙ ev ∙ scale-into _ _ h lent) i) ((ez ∙ ap (acted q r m 1 1) (ey ∙ scale-into result _ h (c .result ∙ sym (c .left)))) i))
+    ∙ sym (multiplied-one q r m h g)
 
 -- ---- the sum of the first k summands
 

@@ -1,4 +1,4 @@
--- The letters of a word act one by one, each as T_a(j,1) by the nested method. Rests on ring's Modular, perms' All and
+-- The letters of a word act one by one, each as T_a(j,1) by the nested method. Rests on ring's Modular, lists' All and
 -- algebra's Modular.
 --
 --   Acting q r m word x₀ x i   the first i letters of the word have acted on x₀, which is now x
@@ -10,9 +10,9 @@ use lib.ListN.{length, getD, take}
 use lib.Seq.{take-suc, take-all}
 use Rattle.ring.specs.Modular.{words}
 use Rattle.ring.proofs.Modular.{words-pos}
+use Rattle.lists.proofs.All.{all-getD}
 use Rattle.perms.specs.Permutation.{Letter, Word}
 use Rattle.perms.specs.Tower.{cycle}
-use Rattle.perms.proofs.All.{all-getD}
 use Rattle.algebra.specs.Element.{Element}
 use Rattle.algebra.specs.Product.{letter, act}
 use Rattle.algebra.proofs.Modular.{modular-method, modular-closed}

@@ -1,5 +1,5 @@
 -- One letter on an element of rank 1 is an exchange of two words; on one of rank 2 it is two exchanges, one of two words and one of two blocks of 2
--- words. Rests on Parts, Pieces, Middle and Act.
+-- words. Rests on Pieces, Middle and Act, and lists' Parts.
 use mathlib.Core.Path.{_≡_, refl, sym, ap, _∙_}
 use mathlib.Core.List.{List, [], _++_, append-nil}
 use Prim.Native.Nat.{ℕ, suc, _-_, _≤_}
@@ -7,10 +7,10 @@ use native.Mathlib.Omega.{arith}
 use lib.ListN.{length, take, drop, length-drop}
 use lib.Seq.{take-all, length-take-le}
 use borrow.Rule.Slice.PartMut.{putMid, same-len-mid}
-use Rattle.algebra.specs.Numbers.{factorial}
-use Rattle.algebra.specs.Blocks.{block, blocks}
+use Rattle.lists.specs.Numbers.{factorial}
+use Rattle.lists.specs.Blocks.{block, blocks}
+use Rattle.lists.proofs.Parts.{whole-block, front-put, rest-put}
 use Rattle.hecke.specs.Steps.{acted, turned, ActPre}
-use Rattle.hecke.proofs.Parts.{whole-block, front-put, rest-put}
 use Rattle.hecke.proofs.Pieces.{block-take, turned-cong, act-pieces}
 use Rattle.hecke.proofs.Middle.{swapped, exchanged-one}
 use Rattle.hecke.proofs.Act.{after-first}

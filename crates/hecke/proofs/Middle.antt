@@ -1,5 +1,5 @@
 -- The loop of `middle`: each block after the first is lent twice in one step, and between the two its part is added to the sum; for one part, the
--- exchange of two blocks. Rests on Parts, Sums, Passed, Pieces and algebra's Blocks.
+-- exchange of two blocks. Rests on Sums and Pieces, and lists' Parts, Passed and Blocks.
 --
 --   onBlock q r m j l k y         block k, which was y, after its step; block 0 is not changed
 --   swapped q r b x               what `exchange` makes of x, two blocks of b words
@@ -15,13 +15,13 @@ use lib.ListN.{length, take, drop, length-drop}
 use lib.Seq.{take-at, drop-at, length-take-le, take-all}
 use borrow.Rule.Slice.PartMut.{midOf, postOf, putMid, same-len-mid, take-put}
 use Rattle.ring.specs.Modular.{words}
-use Rattle.algebra.specs.Blocks.{block, blocks}
+use Rattle.lists.specs.Blocks.{block, blocks}
+use Rattle.lists.proofs.Blocks.{block-size, blocks-add, blocks-cong, map-blocks}
+use Rattle.lists.proofs.Parts.{part-block, part-size, rest-size}
+use Rattle.lists.proofs.Passed.{Passed, passed-more, passed-all}
 use Rattle.algebra.specs.Element.{plus, scale}
-use Rattle.algebra.proofs.Blocks.{block-size, blocks-add, blocks-cong, map-blocks}
 use Rattle.hecke.specs.Steps.{sums, collected, acted, kept, turned, ActPre, MiddlePre}
-use Rattle.hecke.proofs.Parts.{part-block, part-size, rest-size}
 use Rattle.hecke.proofs.Sums.{collected-sums}
-use Rattle.hecke.proofs.Passed.{Passed, passed-more, passed-all}
 use Rattle.hecke.proofs.Pieces.{acted-none}
 
 -- ---- a part that is lent again

@@ -1,5 +1,5 @@
 -- One level of the nested method as three parts of x: the blocks below m - j, the blocks from there to m - j + l, which depend on one another in the result,
--- and the blocks above. Rests on Sums and algebra's Level and Blocks.
+-- and the blocks above. Rests on Sums, algebra's Level and lists' Blocks.
 --
 --   pieces q r d b a j l x   the three parts, of blocks of rank d and b words, of which the second is from block a on
 use mathlib.Core.Path.{_≡_, refl, sym, ap, ap₂, _∙_}
@@ -10,11 +10,11 @@ use native.Mathlib.Omega.{arith}
 use lib.ListN.{length, take, drop}
 use lib.Seq.{take-add, take-take, drop-at, drop-drop, length-take-le}
 use Rattle.ring.specs.Modular.{words}
-use Rattle.algebra.specs.Numbers.{factorial}
-use Rattle.algebra.specs.Blocks.{block, blocks}
+use Rattle.lists.specs.Numbers.{factorial}
+use Rattle.lists.specs.Blocks.{block, blocks}
+use Rattle.lists.proofs.Blocks.{blocks-cong}
 use Rattle.algebra.specs.Element.{plus, scale}
 use Rattle.algebra.specs.Nested.{Counted, free, _⧺_, row, _⊞_, _⊠_, sumRow, part, level, nestedAct}
-use Rattle.algebra.proofs.Blocks.{blocks-cong}
 use Rattle.algebra.proofs.Level.{row-value}
 use Rattle.hecke.specs.Steps.{sums, acted, kept, turned}
 use Rattle.hecke.proofs.Sums.{sumRow-sums}

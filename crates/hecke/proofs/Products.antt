@@ -8,16 +8,19 @@ use native.Mathlib.Omega.{arith}
 use lib.ListN.{length, take, drop, replicate}
 use lib.Seq.{length-take-le, take-at, drop-at}
 use Rattle.ring.specs.Modular.{words}
-use Rattle.algebra.specs.Numbers.{factorial}
+use Rattle.lists.specs.Numbers.{factorial}
+use Rattle.refusals.specs.Refusals.{_then_, accepted}
+use Rattle.refusals.specs.declared.Verdict.the-variants.{Accepted}
+use Rattle.refusals.specs.declared.Answer.{Answer}
 use Rattle.algebra.specs.Element.{Element}
 use Rattle.algebra.specs.Product.{minusOne, times}
 use Rattle.algebra.proofs.Modular.{word-method}
-use Rattle.element_calls.specs.declared.Verdict.the-variants.{Accepted}
-use Rattle.element_calls.specs.declared.Answer.{Answer}
-use Rattle.element_calls.specs.Calls.{_then_, rankVerdict, sizeVerdict, needed, scratchSize, scratchVerdict, productCount, accepted, productCall}
-use Rattle.element_calls.proofs.Sizes.{scratch-size-is, product-count-is}
+use Rattle.ranks.specs.Ranks.{needed, scratchSize, productCount}
+use Rattle.ranks.proofs.Sizes.{scratch-size-is, product-count-is}
+use Rattle.element_calls.specs.Calls.{rankVerdict, sizeVerdict, scratchVerdict, productCall}
+use Rattle.element_calls.proofs.Calls.{write-done}
 use Rattle.element_calls.proofs.Verdicts.{product-accepted}
-use Rattle.element_calls.proofs.Calls.{write-done, product-counted}
+use Rattle.element_calls.proofs.Calls.{product-counted}
 use Rattle.hecke.specs.Steps.{multiplied, TimesPre}
 
 -- the checks accept, and n words of scratch are lent

@@ -5,12 +5,12 @@ ghost use mathlib.Core.List.{[]};
 ghost use Prim.Native.Nat.{ℕ, suc, _≤_};
 ghost use lib.ListN.{length};
 ghost use Rattle.ring.specs.Modular.{words};
+ghost use Rattle.lists.specs.Numbers.{factorial};
+ghost use Rattle.lists.specs.Blocks.{block, blocks};
 ghost use Rattle.perms.specs.Permutation.{Word};
-ghost use Rattle.algebra.specs.Numbers.{factorial};
-ghost use Rattle.algebra.specs.Blocks.{block, blocks};
 ghost use Rattle.algebra.specs.Product.{act};
 ghost use Rattle.hecke.specs.Steps.{acted, turned, ActPre, EachPre, MiddlePre};
-use crate::lists;
+use crate::blocks;
 
 // x T_a(j,l) in the place of x, of rank m. The blocks m - j to m - j + l of the result depend on one another; on each other
 // block T_a(j,l) or T_a(j-1,l) acts by itself.
@@ -67,10 +67,10 @@ fn middle(x: &mut [u64], work: &mut [u64], m: usize, b: usize, j: usize, l: usiz
         let at = k * b;
         let end = at + b;
         act(&mut x[at..end], &mut work[b..], m, j - 1, i, q, r);
-        lists::collect(work, x, b, k, i);
+        blocks::collect(work, x, b, k, i);
         act(&mut x[at..end], &mut work[b..], m, j - k, l - k, q, r);
     }
-    lists::turn(x, work, b, q, r);
+    blocks::turn(x, work, b, q, r);
 }
 
 // x T_j in the place of x, of rank m. This is T_a(j,1), for which the two blocks that depend on one another change in place: it
@@ -84,7 +84,7 @@ pub(crate) fn letter(x: &mut [u64], m: usize, j: usize, q: u64, r: u64)
         return;
     }
     if m == 1 {
-        lists::exchange(x, 1, q, r);
+        blocks::exchange(x, 1, q, r);
         return;
     }
     let lower = m - 1;
@@ -92,7 +92,7 @@ pub(crate) fn letter(x: &mut [u64], m: usize, j: usize, q: u64, r: u64)
     let low = (m - j) * b;
     let high = low + b + b;
     each_letter(&mut x[0..low], lower, b, m - j, j, q, r);
-    lists::exchange(&mut x[low..high], b, q, r);
+    blocks::exchange(&mut x[low..high], b, q, r);
     each_letter(&mut x[high..], lower, b, j - 1, j - 1, q, r);
 }
 
@@ -114,12 +114,12 @@ fn letter_of_rank_two(x: &mut [u64], j: usize, q: u64, r: u64)
     ensures { λ _. ⌜ now (x .exit) ≡ acted q r 2 j 1 (now (x .entry)) ⌝ }
 {
     if j == 1 {
-        lists::exchange(&mut x[0..2], 1, q, r);
-        lists::exchange(&mut x[2..], 2, q, r);
+        blocks::exchange(&mut x[0..2], 1, q, r);
+        blocks::exchange(&mut x[2..], 2, q, r);
         return;
     }
-    lists::exchange(&mut x[0..4], 2, q, r);
-    lists::exchange(&mut x[4..], 1, q, r);
+    blocks::exchange(&mut x[0..4], 2, q, r);
+    blocks::exchange(&mut x[4..], 1, q, r);
 }
 
 // The letters act on x one by one.

@@ -2,10 +2,10 @@
 
 ghost use mathlib.Core.Path.{_≡_};
 ghost use Prim.Native.Nat.{suc};
-ghost use Rattle.algebra.specs.Numbers.{factorial};
+ghost use Rattle.lists.specs.Numbers.{factorial};
 ghost use Rattle.hecke.specs.Steps.{multiplied, LayerPre, LayerPost, TimesPre};
 use crate::action;
-use crate::lists;
+use crate::blocks;
 
 // h g in the place of result, for h of rank m and g of rank l. The sum of the first k summands, one for each block of g, is in
 // the first words of scratch.
@@ -23,7 +23,7 @@ pub(crate) fn times(
     ensures { λ _. ⌜ now (result .exit) ≡ multiplied q r m l (now (h .entry)) (now (g .entry)) ⌝ }
 {
     if l == 0 {
-        lists::scale_into(result, g[0], h);
+        word_lists::scale_into(result, g[0], h);
         return;
     }
     let size = crate::size(m);
@@ -35,10 +35,10 @@ pub(crate) fn times(
     let part = crate::size(lower);
     for k in 0..l {
         layer(result, scratch, h, g, m, lower, k, size, part, q, r);
-        lists::collect(scratch, result, size, 0, k);
+        blocks::collect(scratch, result, size, 0, k);
     }
     layer(result, scratch, h, g, m, lower, l, size, part, q, r);
-    lists::finish(result, scratch);
+    blocks::finish(result, scratch);
 }
 
 // h g in the place of result, for g of rank 1: g_0 h + (g_1 h) T_1.
@@ -55,10 +55,10 @@ fn times_one(
     requires { ⌜ TimesPre m 1 (now result) (now scratch) (now h) (now g) × (size ≡ factorial (suc m)) ⌝ }
     ensures { λ _. ⌜ now (result .exit) ≡ multiplied q r m 1 (now (h .entry)) (now (g .entry)) ⌝ }
 {
-    lists::scale_into(&mut scratch[0..size], g[0], h);
-    lists::scale_into(result, g[1], h);
+    word_lists::scale_into(&mut scratch[0..size], g[0], h);
+    word_lists::scale_into(result, g[1], h);
     action::letter(result, m, 1, q, r);
-    lists::finish(result, scratch);
+    blocks::finish(result, scratch);
 }
 
 // (h g_k) T_a(l+1,k) in the place of result, for the block g_k of g, of rank l and part words. The first size words of scratch

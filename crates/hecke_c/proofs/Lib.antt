@@ -1,2 +1,3 @@
-pub mod Fill
-pub mod Told
+mod Told
+mod Near
+mod Ends

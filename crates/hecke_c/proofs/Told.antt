@@ -1,36 +1,53 @@
--- What a caller is told, and what a call leaves, from the parts that make it. Rests on the definitions alone.
-use mathlib.Core.Path.{_≡_, sym, ap, _∙_}
-use mathlib.Core.List.{List}
-use Prim.Native.Nat.{ℕ}
-use Rattle.perms.specs.declared.Verdict.{Verdict}
-use Rattle.perms.specs.declared.Counted.{Counted}
-use Rattle.perms.specs.Calls as P
-use Rattle.element_calls.specs.declared.Answer.{Answer}
-use Rattle.element_calls.specs.Calls as H
-use Rattle.hecke_c.specs.Report.{Told, Returned, returned}
-use Rattle.hecke_c.specs.Towers as T
-use Rattle.hecke_c.specs.Elements as E
+-- The returned word and the answer, by the report: done, with one or two words at the front of the answer, or refused. Rests on refusals' Verdicts and
+-- lists' Test.
+use mathlib.Core.Path.{_≡_, refl, sym, ap, _∙_}
+use mathlib.Core.List.{List, [], _∷_}
+use Prim.Native.Nat.{ℕ, zero, suc, _+_, _*_, _≤_}
+use native.Mathlib.Omega.{arith}
+use lib.ListN.{length, set}
+use Rattle.lists.proofs.Test.{same-yes, same-no}
+use Rattle.refusals.specs.Refusals.{refusalNumber, refusalPlace, Report, reported}
+use Rattle.refusals.specs.declared.Refusal.{Refusal}
+use Rattle.refusals.specs.declared.Verdict.the-variants.{Accepted, Refused}
+use Rattle.refusals.proofs.Verdicts.{number-within}
+use Rattle.hecke_c.specs.Returned.{wordOf, fill, told}
 
-pub told-by : {n number : ℕ} {last report : List ℕ} → n ≡ number → last ≡ report
-    → _≡_ {A = Told} (record { number = number; report = report }) (record { number = n; report = last })
-told-by e f = λ i. record { number = sym e i; report = sym f i }
+-- ---- words at the front of an answer
 
-module _ {n : ℕ} {last : List ℕ} (report : List ℕ) where
-  pub verdict-call : {o : P.Outcome Verdict} {v : Verdict} {lent : List ℕ} → o ≡ record { answer = v; buffer = lent }
-      → T.verdictTold v report ≡ record { number = n; report = last } → T.verdictCall o report ≡ record { number = n; lent = lent; report = last }
-  unfolding T.verdictCall
-  verdict-call {lent = lent} e t = ap (λ o. T.verdictCall o report) e ∙ ap (returned lent) t
+pub set-past : (r : List ℕ) (i x : ℕ) → length r ≤ i → set r i x ≡ r
+set-past [] i x h = refl
+set-past (y ∷ r) zero x h = absurd (omega arith)
+set-past (y ∷ r) (suc i) x h = ap {B = List ℕ} (λ s. y ∷ s) (set-past r i x (omega arith))
 
-  pub counted-call : {o : P.Outcome Counted} {v : Counted} {lent : List ℕ} → o ≡ record { answer = v; buffer = lent }
-      → T.countedTold v report ≡ record { number = n; report = last } → T.countedCall o report ≡ record { number = n; lent = lent; report = last }
-  unfolding T.countedCall
-  counted-call {lent = lent} e t = ap (λ o. T.countedCall o report) e ∙ ap (returned lent) t
+fill-one : (a : ℕ) (r : List ℕ) → set r 0 a ≡ fill (a ∷ []) r
+unfolding fill
+fill-one a [] = refl
+fill-one a (x ∷ r) = refl
 
-  pub answer-call : {A : Type 0} {o : H.Outcome A} {a : Answer} {lent : A} → o ≡ record { answer = a; lent = lent }
-      → E.verdictTold (a .verdict) (a .count) report ≡ record { number = n; report = last }
-      → E.answerCall o report ≡ record { number = n; lent = lent; report = last }
-  unfolding E.answerCall
-  answer-call {lent = lent} e t = ap (λ o. E.answerCall o report) e ∙ ap (returned lent) t
+fill-two : (a b : ℕ) (r : List ℕ) → set (set r 0 a) 1 b ≡ fill (a ∷ b ∷ []) r
+unfolding fill
+fill-two a b [] = refl
+fill-two a b (x ∷ []) = refl
+fill-two a b (x ∷ y ∷ r) = refl
 
-pub answered : {A : Type 0} (f : A → List ℕ → Told) (report : List ℕ) {a b : A} {t : Told} → a ≡ b → f a report ≡ t → f b report ≡ t
-answered f report e t = ap (λ x. f x report) (sym e) ∙ t
+-- ---- what is told
+
+told-done : (n : ℕ) (xs answer : List ℕ) → told (reported Accepted n) xs answer ≡ fill xs answer
+unfolding told
+told-done n xs answer = rw (same-yes {x = 0} refl) refl
+
+pub done-one : {r : Report} {n : ℕ} {y : List ℕ} (answer : List ℕ) → r ≡ reported Accepted n → y ≡ set answer 0 n
+    → (0 ≡ wordOf r) × (y ≡ told r (r .count ∷ []) answer)
+unfolding wordOf
+done-one {n = n} answer e f = rw e (refl, f ∙ fill-one n answer ∙ sym (told-done n _ answer))
+
+pub done-two : {r : Report} {a b n : ℕ} {y z : List ℕ} (answer : List ℕ) → r ≡ reported Accepted n → b ≡ a → y ≡ set answer 0 a → z ≡ set y 1 n
+    → (0 ≡ wordOf r) × (z ≡ told r (b ∷ r .count ∷ []) answer)
+unfolding wordOf
+done-two {a = a} {n = n} answer e g f h = rw (e, g) (refl, h ∙ ap (λ y. set y 1 n) f ∙ fill-two a n answer ∙ sym (told-done n _ answer))
+
+pub refused-told : {r : Report} {n w : ℕ} (why : Refusal) (xs answer : List ℕ) → r ≡ reported (Refused why) n
+    → w ≡ refusalNumber why + 256 * refusalPlace why → (w ≡ wordOf r) × (answer ≡ told r xs answer)
+unfolding wordOf told
+refused-told why xs answer e f =
+    rw e (f, sym (rw (same-no {x = refusalNumber why} {a = 0} (λ z. omega (arith, number-within why .0))) refl))

@@ -1,4 +1,2 @@
-pub mod Report
-pub mod Towers
-pub mod Elements
-pub mod Sheets
+pub mod Returned
+pub mod Calls

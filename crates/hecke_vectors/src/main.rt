@@ -12,8 +12,8 @@
 // The program ends where the input does. It also ends, with no line, at a call that is cut off, and at one with more than 5,041
 // words in a list or the result, 4,097 letters or 60,500 words of scratch.
 
-use element_calls::Answer;
-use element_calls::Verdict;
+use refusals::Answer;
+use refusals::Verdict;
 use vector_io::Read;
 use vector_io::print_field;
 
@@ -57,8 +57,8 @@ fn print_verdict(verdict: Verdict) {
         }
         Verdict::Refused(why) => {
             io::write_all(1, b"E");
-            print_field(element_calls::number_of(why) as u64);
-            print_field(element_calls::place_of(why) as u64);
+            print_field(refusals::number_of(why) as u64);
+            print_field(refusals::place_of(why) as u64);
         }
     }
 }
@@ -93,12 +93,12 @@ fn print_words(words: &[u64]) {
 }
 
 fn run_sum(m: usize, left: &[u64], right: &[u64], result: &mut [u64]) {
-    print_answer(hecke::sum(m, left, right, result));
+    print_answer(linear::sum(m, left, right, result));
     print_words(result);
 }
 
 fn run_scale(m: usize, c: u64, element: &[u64], result: &mut [u64]) {
-    print_answer(hecke::scale(m, c, element, result));
+    print_answer(linear::scale(m, c, element, result));
     print_words(result);
 }
 

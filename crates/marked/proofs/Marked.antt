@@ -1,22 +1,25 @@
 -- Every row of the table of marked cases holds, by computation.
 use mathlib.Core.Path.{refl}
 use Rattle.ring.specs.Modular.{modular, words}
-use Rattle.perms.specs.Lists.{All, same, less, range, tally}
+use Rattle.lists.specs.Lists.{All, same, less, range, tally}
+use Rattle.lists.specs.Numbers.{factorial, series}
+use Rattle.lists.specs.Blocks.{block, blocks}
+use Rattle.lists.specs.Overwrite.{overwrite}
+use Rattle.refusals.specs.Refusals.{ended}
 use Rattle.perms.specs.Permutation.{product, identity, swap, generator, ofWord, below, len}
 use Rattle.perms.specs.Tower.{above, entry, towerOf, cycle, cycles, standard, ofCycles, imagesOf}
-use Rattle.algebra.specs.Numbers.{factorial, series}
-use Rattle.algebra.specs.Blocks.{block, blocks}
 use Rattle.algebra.specs.Place.{place, join, perms}
 use Rattle.algebra.specs.Element.{coefficient, element, plus, scale, sumOver, basis, unit}
 use Rattle.algebra.specs.Product.{minusOne, letter, act, times}
 use Rattle.algebra.specs.Nested.{operations, both, free, onward, _⧺_, row, _⊞_, _⊠_, sumRow, part, level, nestedAct, nested}
 use Rattle.algebra.specs.Cost.{cLine, c, C}
-use Rattle.element_calls.specs.Calls.{rankVerdict, sizeVerdict, needed, scratchVerdict, productCall}
-use Rattle.sheet.specs.Format.{byte, number, width, known, command, decode}
-use Rattle.sheet.specs.Check.{rank, parameter, isEnd, inOrder, isRegister, operandsInRange, inRange, placedFrom, placed, firstRefusal, checkSheet}
-use Rattle.runner.specs.Registers.{register, overwrite, zeros}
-use Rattle.runner.specs.Registers.{element as register-element}
-use Rattle.runner.specs.Run.{obey, cost, obeyAll, commands, runSheet}
+use Rattle.ranks.specs.Ranks.{size, needed, scratchSize}
+use Rattle.element_calls.specs.Calls.{rankVerdict, sizeVerdict, scratchVerdict, productCall}
+use Rattle.sheet_format.specs.Format.{byte, number, width, known, command, decode, rank, parameter}
+use Rattle.sheet.specs.Check.{isEnd, inOrder, isRegister, operandsInRange, inRange, placedFrom, placed, firstRefusal, checkSheet}
+use Rattle.machine.specs.Registers.{register, zeros, element as register-element}
+use Rattle.machine.specs.Step.{obey, cost}
+use Rattle.runner.specs.Run.{obeyAll, commands, runSheet}
 use Rattle.output.specs.Text.{digits, decimal, pairLine, line, taggedPair, coefficients}
 use Rattle.output.specs.Printed.{text, texts, printed}
 use Rattle.marked.specs.Table.{Holds, table}
@@ -24,10 +27,10 @@ use Rattle.marked.specs.Table.{Holds, table}
 pub marked : All Holds table
 unfolding modular words same less range tally product identity swap generator ofWord below len above entry towerOf cycle cycles standard
     ofCycles imagesOf factorial series block blocks place join perms coefficient element plus scale sumOver basis unit minusOne letter
-    act times operations both free onward _⧺_ row _⊞_ _⊠_ sumRow part level nestedAct nested cLine c C rankVerdict sizeVerdict needed scratchVerdict
+    act times operations both free onward _⧺_ row _⊞_ _⊠_ sumRow part level nestedAct nested cLine c C rankVerdict size sizeVerdict needed scratchSize scratchVerdict
     productCall byte number width known command decode rank parameter isEnd inOrder isRegister operandsInRange inRange placedFrom placed firstRefusal
     checkSheet register register-element overwrite zeros obey cost obeyAll commands runSheet digits decimal pairLine line taggedPair coefficients text
-    texts printed
+    texts printed ended
 marked = (
   (refl, refl),
   (

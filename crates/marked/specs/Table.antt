@@ -10,17 +10,20 @@ use mathlib.Core.List.{List, [], _∷_, _++_, map}
 use Prim.Native.Nat.{ℕ, suc, _+_, _-_, _^_}
 use lib.ListN.{length, replicate}
 use Rattle.ring.specs.Modular.{words}
-use Rattle.perms.specs.Lists.{range}
+use Rattle.lists.specs.Lists.{range}
+use Rattle.lists.specs.Numbers.{factorial}
+use Rattle.refusals.specs.Refusals.{accepted, Outcome}
+use Rattle.refusals.specs.declared.Answer.{Answer}
+use Rattle.refusals.specs.declared.Verdict.the-variants.{Accepted}
 use Rattle.perms.specs.Permutation.{ofWord}
 use Rattle.perms.specs.Tower.{towerOf, imagesOf}
-use Rattle.algebra.specs.Numbers.{factorial}
 use Rattle.algebra.specs.Place.{place, perms}
 use Rattle.algebra.specs.Element.{basis, unit}
 use Rattle.algebra.specs.Product.{minusOne, times}
 use Rattle.algebra.specs.Nested.{operations, nested}
 use Rattle.algebra.specs.Cost.{C}
-use Rattle.element_calls.specs.Calls.{accepted, needed, Outcome, Buffers, productCall}
-use Rattle.sheet.specs.declared.Verdict.the-variants.{Accepted}
+use Rattle.ranks.specs.Ranks.{needed}
+use Rattle.element_calls.specs.Calls.{Buffers, productCall}
 use Rattle.runner.specs.Run.{given, runSheet}
 use Rattle.output.specs.Printed.{printed}
 
@@ -43,7 +46,7 @@ abbrev basisOf : ℕ → List ℕ → List ℕ
 basisOf m x = basis ℕ words m (ofWord m x)
 
 -- the product call on a slice that holds 7s, with scratch of 7s that is one word longer than needed
-abbrev called : (m q : ℕ) (h g : List ℕ) → Outcome Buffers
+abbrev called : (m q : ℕ) (h g : List ℕ) → Outcome Answer Buffers
 called m q h g = productCall m q h g (replicate (factorial (suc m)) 7) (replicate (needed m + 1) 7)
 
 abbrev pub Holds : Case → Type 0

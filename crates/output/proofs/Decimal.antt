@@ -1,11 +1,11 @@
--- Numbers in base ten: by their last digit, by induction, and how many digits they have. Rests on perms' Test.
+-- Numbers in base ten: by their last digit, by induction, and how many digits they have. Rests on lists' Test.
 use mathlib.Core.Path.{_≡_, ap, _∙_}
 use mathlib.Core.List.{[], _∷_, _++_}
 use Prim.Native.Nat.{ℕ, zero, suc, _+_, _/_, _%_, _^_, _≤_, _<_}
 use native.Mathlib.Nat.{pow-suc}
 use native.Mathlib.Omega.{arith}
 use lib.ListN.{length, length-append}
-use Rattle.perms.proofs.Test.{LessView, lt, ge, less?, less-yes, less-no}
+use Rattle.lists.proofs.Test.{LessView, lt, ge, less?, less-yes, less-no}
 use Rattle.output.specs.Text.{digits, decimal}
 
 -- the number that bounds the recursion does not matter

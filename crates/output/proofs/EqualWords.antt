@@ -1,4 +1,4 @@
--- A loop that compares two lists word by word. Rests on perms' Test.
+-- A loop that compares two lists word by word. Rests on lists' Test.
 use mathlib.Core.Path.{_≡_, sym, ap₂, _∙_}
 use mathlib.Core.Logic.{_≢_}
 use mathlib.Core.Bool.{true, false}
@@ -8,7 +8,7 @@ use native.Mathlib.Numerals.{add-one}
 use native.Mathlib.Omega.{arith}
 use lib.ListN.{length, getD, drop, drop-of-length-le}
 use lib.Seq.{drop-cons}
-use Rattle.perms.proofs.Test.{same-yes, same-no}
+use Rattle.lists.proofs.Test.{same-yes, same-no}
 use Rattle.output.specs.Text.{equal}
 
 -- two lists of one size are equal exactly where their words from index i on are

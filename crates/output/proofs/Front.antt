@@ -4,9 +4,9 @@ use mathlib.Core.List.{List}
 use Prim.Native.Nat.{ℕ, _+_, _≤_}
 use native.Mathlib.Omega.{arith}
 use lib.ListN.{length, drop, length-append}
-use Rattle.sheet.specs.declared.Command.{Command}
-use Rattle.sheet.specs.declared.Refusal.{Refusal}
-use Rattle.runner.specs.Registers.{overwrite}
+use Rattle.lists.specs.Overwrite.{overwrite}
+use Rattle.refusals.specs.declared.Refusal.{Refusal}
+use Rattle.sheet_format.specs.declared.Command.{Command}
 use Rattle.output.specs.Steps.{Written}
 use Rattle.output.specs.Printed.{Outcome, front, textCall, errorCall}
 

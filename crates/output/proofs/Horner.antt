@@ -1,5 +1,5 @@
--- The pairing of rank m from that of its m + 1 blocks, from the last block on: the loop of `pairing`. Rests on algebra's Pairing and Blocks and
--- hecke's WordSlices.
+-- The pairing of rank m from that of its m + 1 blocks, from the last block on: the loop of `pairing`. Rests on algebra's Pairing and
+-- WordSlices and on lists' Blocks.
 --
 --   blockSize m a              how many words a block of a has
 --   lent size k x              block k of x, as the code lends it
@@ -14,12 +14,12 @@ use mir.Syntax.{w64}
 use mir.Val.{Fits}
 use lib.ListN.{length, getD, take, drop}
 use Rattle.ring.specs.Modular.{words, modular}
-use Rattle.algebra.specs.Numbers.{factorial}
-use Rattle.algebra.specs.Blocks.{block}
+use Rattle.lists.specs.Numbers.{factorial}
+use Rattle.lists.specs.Blocks.{block}
+use Rattle.lists.proofs.Blocks.{block-length}
 use Rattle.algebra.specs.Pairing.{pairing}
-use Rattle.algebra.proofs.Blocks.{block-length}
 use Rattle.algebra.proofs.Pairing.{horner, word-pairing-zero, word-pairing-blocks}
-use Rattle.hecke.proofs.WordSlices.{slice-element}
+use Rattle.algebra.proofs.WordSlices.{slice-element}
 use Rattle.output.specs.Steps.{PairingPre}
 
 abbrev pub blockSize : ℕ → List ℕ → ℕ

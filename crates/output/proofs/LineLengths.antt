@@ -1,15 +1,12 @@
--- How long the lines are for words, and for refusals. Rests on Decimal and perms' Test.
+-- How long the lines are for words, and for refusals. Rests on Decimal and lists' Test.
 use mathlib.Core.Path.{_≡_}
 use mathlib.Core.Bool.{Bool, true, false}
 use mathlib.Core.List.{List, [], _∷_}
 use Prim.Native.Nat.{ℕ, suc, _+_, _*_, _^_, _≤_, _<_}
 use native.Mathlib.Omega.{arith}
 use lib.ListN.{length, length-append}
-use Rattle.perms.specs.Lists.{bit, All}
-use Rattle.perms.proofs.Test.{SameView, is, isnt, same?}
-use Rattle.sheet.specs.Check.{refusalNumber}
-use Rattle.sheet.specs.declared.Refusal.{Refusal}
-use Rattle.sheet.specs.declared.Refusal.the-variants.{Size, Unknown, CutOff, Order, Range, Ending}
+use Rattle.lists.specs.Lists.{bit, All}
+use Rattle.lists.proofs.Test.{SameView, is, isnt, same?}
 use Rattle.output.specs.Text.{decimal, pairLine, line, taggedPair, coefficients, errorRoom}
 use Rattle.output.proofs.Decimal.{length-digit, decimal-short}
 
@@ -40,14 +37,6 @@ line-short tag a h = omega (arith, length-line tag a, word-short a h)
 
 pub tagged-pair-short : (tag a b : ℕ) → a < 2 ^ 64 → b < 2 ^ 64 → length (taggedPair tag a b) ≤ 44
 tagged-pair-short tag a b h l = omega (arith, length-taggedPair tag a b, length-pairLine a b, word-short a h, word-short b l)
-
-pub number-small : (why : Refusal) → refusalNumber why < 100
-number-small Size = omega arith
-number-small (Unknown at) = omega arith
-number-small (CutOff at) = omega arith
-number-small (Order at) = omega arith
-number-small (Range at) = omega arith
-number-small (Ending at) = omega arith
 
 pub error-short : (tag a b : ℕ) → a < 100 → b < 2 ^ 64 → length (taggedPair tag a b) ≤ errorRoom
 error-short tag a b h l = omega (arith, length-taggedPair tag a b, length-pairLine a b, decimal-short 1 a h, word-short b l)

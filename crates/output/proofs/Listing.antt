@@ -1,4 +1,4 @@
--- A loop that writes the nonzero coefficients of a list one after another. Rests on Overwrite, LineLengths and perms' Test.
+-- A loop that writes the nonzero coefficients of a list one after another. Rests on Overwrite, LineLengths and lists' Test.
 --
 --   Listed at h t u next i   the lines of the first i coefficients of h are written over t, from index at on, which gave u
 use mathlib.Core.Path.{_≡_, sym, ap, _∙_, subst}
@@ -11,8 +11,8 @@ use native.Mathlib.Numerals.{add-one}
 use native.Mathlib.Omega.{arith}
 use lib.ListN.{length, getD, take, drop, length-append, take-append-drop}
 use lib.Seq.{length-take-le, take-suc, take-all}
-use Rattle.perms.specs.Lists.{same, All}
-use Rattle.perms.proofs.Test.{same-yes, same-no}
+use Rattle.lists.specs.Lists.{same, All}
+use Rattle.lists.proofs.Test.{same-yes, same-no}
 use Rattle.output.specs.Text.{pairLine, coefficients}
 use Rattle.output.specs.Steps.{Written}
 use Rattle.output.proofs.Overwrite.{written-none, written-more, written-size}

@@ -1,10 +1,10 @@
--- A number in base ten reads back: its digits spell it, with no 0 in front. Rests on Decimal and perms' All.
+-- A number in base ten reads back: its digits spell it, with no 0 in front. Rests on Decimal and lists' All.
 use mathlib.Core.Path.{_≡_, refl, sym, ap, _∙_}
 use mathlib.Core.List.{List, [], _∷_, _++_}
 use Prim.Native.Nat.{ℕ, _+_, _-_, _*_, _/_, _%_, _≤_, _<_}
 use native.Mathlib.Omega.{arith}
 use lib.ListN.{List·getD-append}
-use Rattle.perms.proofs.All.{all-append}
+use Rattle.lists.proofs.All.{all-append}
 use Rattle.output.specs.Text.{decimal, value, Spells}
 use Rattle.output.proofs.Decimal.{decimal-digit, decimal-last, by-digits, decimal-some}
 

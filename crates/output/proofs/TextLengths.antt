@@ -1,5 +1,5 @@
 -- A command prints at most 18,004 bytes, where the registers, the count and the operand of begin are words. Rests on LineLengths,
--- sheet's InRange and runner's Put.
+-- sheet's InRange and machine's Put.
 use mathlib.Core.Path.{_≡_, refl}
 use mathlib.Core.Bool.{true}
 use mathlib.Core.List.{List, [], _∷_}
@@ -9,18 +9,18 @@ use native.Mathlib.Omega.{arith}
 use lib.ListN.{length, length-append}
 use Rattle.ring.specs.Sum.{sum}
 use Rattle.ring.specs.Modular.{words, modular}
-use Rattle.perms.specs.Lists.{bit, All}
-use Rattle.perms.proofs.All.{all-getD}
-use Rattle.algebra.specs.Numbers.{factorial}
+use Rattle.lists.specs.Lists.{bit, All}
+use Rattle.lists.specs.Numbers.{factorial}
+use Rattle.lists.proofs.All.{all-getD}
 use Rattle.algebra.specs.Pairing.{pairing}
+use Rattle.sheet_format.specs.declared.Command.{Command}
+use Rattle.sheet_format.specs.declared.Command.the-variants.{End, Begin, Unit, Set, Letter, Product, Sum, Scale, Show, Pair, Equal}
 use Rattle.sheet.specs.Check.{inRange}
-use Rattle.sheet.specs.declared.Command.{Command}
-use Rattle.sheet.specs.declared.Command.the-variants.{End, Begin, Unit, Set, Letter, Product, Sum, Scale, Show, Pair, Equal}
 use Rattle.sheet.proofs.InRange.{low, within}
-use Rattle.runner.specs.Registers.{element}
+use Rattle.machine.specs.Registers.{element}
+use Rattle.machine.specs.Steps.{Registers}
+use Rattle.machine.proofs.Put.{small, words-element}
 use Rattle.runner.specs.Run.{Machine}
-use Rattle.runner.specs.Steps.{Registers}
-use Rattle.runner.proofs.Put.{small, words-element}
 use Rattle.output.specs.Text.{coefficients, equal, room}
 use Rattle.output.specs.Printed.{text}
 use Rattle.output.proofs.LineLengths.{bit-small, digit-line, line-short, tagged-pair-short, coefficients-short}

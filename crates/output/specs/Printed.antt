@@ -15,15 +15,18 @@ use mathlib.Core.List.{List, [], _∷_, _++_}
 use Prim.Native.Nat.{ℕ}
 use lib.ListN.{length}
 use Rattle.ring.specs.Modular.{words}
-use Rattle.perms.specs.Lists.{same, less, bit}
+use Rattle.lists.specs.Lists.{same, less, bit}
+use Rattle.lists.specs.Overwrite.{overwrite}
+use Rattle.refusals.specs.Refusals.{refusalNumber, refusalPlace}
+use Rattle.refusals.specs.declared.Refusal.{Refusal}
+use Rattle.refusals.specs.declared.Verdict.{Verdict}
+use Rattle.refusals.specs.declared.Verdict.the-variants.{Accepted, Refused}
 use Rattle.algebra.specs.Pairing.{pairing}
-use Rattle.sheet.specs.Check.{refusalNumber, refusalPlace, rank, parameter, inRange, placed, checkSheet}
-use Rattle.sheet.specs.declared.Command.{Command}
-use Rattle.sheet.specs.declared.Command.the-variants.{End, Begin, Unit, Set, Letter, Product, Sum, Scale, Show, Pair, Equal}
-use Rattle.sheet.specs.declared.Refusal.{Refusal}
-use Rattle.sheet.specs.declared.Verdict.{Verdict}
-use Rattle.sheet.specs.declared.Verdict.the-variants.{Accepted, Refused}
-use Rattle.runner.specs.Registers.{element, overwrite}
+use Rattle.sheet_format.specs.Format.{rank, parameter}
+use Rattle.sheet_format.specs.declared.Command.{Command}
+use Rattle.sheet_format.specs.declared.Command.the-variants.{End, Begin, Unit, Set, Letter, Product, Sum, Scale, Show, Pair, Equal}
+use Rattle.sheet.specs.Check.{inRange, placed, checkSheet}
+use Rattle.machine.specs.Registers.{element}
 use Rattle.runner.specs.Run.{Machine, start, after, commands}
 use Rattle.output.specs.Text.{line, taggedPair, coefficients, room, errorRoom, equal}
 

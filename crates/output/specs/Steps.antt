@@ -7,8 +7,8 @@ use mathlib.Core.Path.{_≡_}
 use mathlib.Core.List.{List}
 use Prim.Native.Nat.{ℕ, suc, _+_, _≤_}
 use lib.ListN.{length}
-use Rattle.algebra.specs.Numbers.{factorial}
-use Rattle.runner.specs.Registers.{overwrite}
+use Rattle.lists.specs.Numbers.{factorial}
+use Rattle.lists.specs.Overwrite.{overwrite}
 use Rattle.output.specs.Text.{room}
 
 pub record Written (at : ℕ) (x t u : List ℕ) (next : ℕ) : Type 0 where

@@ -15,7 +15,7 @@ use mathlib.Core.Bool.{Bool, true, false, cond, _&&_}
 use mathlib.Core.List.{List, [], _∷_, _++_}
 use Prim.Native.Nat.{ℕ, zero, suc, _+_, _-_, _*_, _/_, _%_, _≤_}
 use lib.ListN.{getD}
-use Rattle.perms.specs.Lists.{same, less, All}
+use Rattle.lists.specs.Lists.{same, less, All}
 
 unfoldable pub digits : ℕ → ℕ → List ℕ
 digits zero n = []

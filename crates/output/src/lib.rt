@@ -5,15 +5,15 @@ ghost use mathlib.Core.Bool.{true};
 ghost use mathlib.Core.List.{_++_};
 ghost use Prim.Native.Nat.{ℕ, _<_};
 ghost use Rattle.ring.specs.Modular.{words};
-ghost use Rattle.perms.specs.Lists.{bit};
+ghost use Rattle.lists.specs.Lists.{bit};
 ghost use Rattle.algebra.specs.Pairing.{pairing};
 ghost use Rattle.sheet.specs.Check.{inRange};
-ghost use Rattle.runner.specs.Registers.{element};
+ghost use Rattle.machine.specs.Registers.{element};
 ghost use Rattle.output.specs.Text.{line, coefficients, equal};
 ghost use Rattle.output.specs.Printed.{text, textCall, errorCall};
 ghost use Rattle.output.specs.Steps.{Written, Shown};
-use sheet::Command;
-use sheet::Refusal;
+use refusals::Refusal;
+use sheet_format::Command;
 
 mod lines;
 mod pairs;
@@ -31,7 +31,7 @@ fn put_register(buffer: &mut [u8], x: &[u64], m: usize, r: usize) -> usize
 {
     let at = lines::put_line(buffer, 82, r as u64);
     let from = 720 * r;
-    let to = from + sheet::size(m);
+    let to = from + ranks::size(m);
     lines::put_coefficients(buffer, at, &x[from..to])
 }
 
@@ -40,7 +40,7 @@ fn put_pairing(buffer: &mut [u8], x: &[u64], m: usize, q: u64, a: usize, b: usiz
     ensures { λ n. ⌜ Written 0 (line 80 (pairing ℕ words q m (element m a (now (x .entry))) (element m b (now (x .entry)))))
         (now (buffer .entry)) (now (buffer .exit)) n ⌝ }
 {
-    let size = sheet::size(m);
+    let size = ranks::size(m);
     let left = 720 * a;
     let right = 720 * b;
     let value = pairs::pairing(&x[left..left + size], &x[right..right + size], m, q);
@@ -52,7 +52,7 @@ fn put_equality(buffer: &mut [u8], x: &[u64], m: usize, a: usize, b: usize) -> u
     ensures { λ n. ⌜ Written 0 (line 81 (bit (equal (element m a (now (x .entry))) (element m b (now (x .entry))))))
         (now (buffer .entry)) (now (buffer .exit)) n ⌝ }
 {
-    let size = sheet::size(m);
+    let size = ranks::size(m);
     let left = 720 * a;
     let right = 720 * b;
     let same = pairs::equal(&x[left..left + size], &x[right..right + size]);
@@ -110,7 +110,7 @@ pub fn error(why: Refusal, buffer: &mut [u8]) -> usize
     lines::put_tagged_pair(
         buffer,
         69,
-        sheet::number_of(why) as u64,
-        sheet::place_of(why) as u64,
+        refusals::number_of(why) as u64,
+        refusals::place_of(why) as u64,
     )
 }

@@ -1,11 +1,11 @@
--- How many elements of a list exceed a number: from one number to the next, and where there is none. Rests on Test.
+-- How many elements of a list exceed a number: from one number to the next, and where there is none. Rests on lists' Test.
 use mathlib.Core.Path.{_≡_, refl}
 use mathlib.Core.List.{List, [], _∷_}
 use Prim.Native.Nat.{ℕ, suc, _+_, _<_}
 use native.Mathlib.Omega.{arith}
-use Rattle.perms.specs.Lists.{same, less, bit, count, tally}
+use Rattle.lists.specs.Lists.{same, less, bit, count, tally}
+use Rattle.lists.proofs.Test.{SameView, is, isnt, LessView, lt, ge, same?, less?, same-yes}
 use Rattle.perms.specs.Tower.{above}
-use Rattle.perms.proofs.Test.{SameView, is, isnt, LessView, lt, ge, same?, less?, same-yes}
 
 pub above-step : (c : ℕ) (u : List ℕ) → above c u ≡ count (suc c) u + above (suc c) u
 unfolding above count tally

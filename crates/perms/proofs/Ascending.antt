@@ -6,8 +6,8 @@ use mathlib.Core.List.{List, [], _∷_}
 use Prim.Native.Nat.{ℕ, _+_, _≤_}
 use native.Mathlib.Omega.{arith}
 use lib.ListN.{length}
+use Rattle.lists.proofs.Test.{less-yes}
 use Rattle.perms.specs.Permutation.{Perm, len, Letter, Word}
-use Rattle.perms.proofs.Test.{less-yes}
 use Rattle.perms.proofs.Perm.{rgt, rgtWord, perm-rgt}
 use Rattle.perms.proofs.Ascent.{ascR, ascL}
 use Rattle.perms.proofs.Longer.{upL, upR, len-lft-le, len-rgt-le, ascL-longer, ascR-longer}

@@ -7,9 +7,9 @@ use mathlib.Core.List.{List, [], _∷_}
 use Prim.Native.Nat.{ℕ, zero, suc, _≤_, _<_}
 use native.Mathlib.Omega.{arith}
 use lib.ListN.{length, getD}
-use Rattle.perms.specs.Lists.{same, less, count, tally}
+use Rattle.lists.specs.Lists.{same, less, count, tally}
+use Rattle.lists.proofs.Test.{SameView, is, isnt, LessView, lt, ge, same?, less?, less-yes, less-no}
 use Rattle.perms.specs.Permutation.{Perm, image, swap, Letter}
-use Rattle.perms.proofs.Test.{SameView, is, isnt, LessView, lt, ge, same?, less?, less-yes, less-no}
 use Rattle.perms.proofs.Swap.{same-swap, swap-lo, swap-hi}
 use Rattle.perms.proofs.Perm.{rgt, lft, swapAt}
 use Rattle.perms.proofs.Image.{perm-distinct}

@@ -2,9 +2,9 @@
 use mathlib.Core.Path.{_≡_, refl, sym, ap, _∙_}
 use Prim.Native.Nat.{ℕ, zero, suc, pred, _+_, _-_, _≤_, _<_}
 use native.Mathlib.Omega.{arith}
+use Rattle.lists.proofs.Test.{SameView, is, isnt, same?}
 use Rattle.perms.specs.Permutation.{swap}
 use Rattle.perms.specs.Tower.{cycle}
-use Rattle.perms.proofs.Test.{SameView, is, isnt, same?}
 use Rattle.perms.proofs.Swap.{swap-off, swap-lo, swap-hi}
 use Rattle.perms.proofs.Walk.{walk}
 

@@ -3,13 +3,13 @@ use mathlib.Core.Path.{_≡_, sym, _∙_, subst}
 use mathlib.Core.List.{List, [], _∷_}
 use Prim.Native.Nat.{ℕ, zero, suc, _+_, _≤_}
 use native.Mathlib.Omega.{arith}
+use Rattle.lists.proofs.Test.{SameView, is, isnt, same?}
 use Rattle.perms.specs.Permutation.{Perm, identity, Letter, Shortest}
 use Rattle.perms.specs.Tower.{cycle}
 use Rattle.perms.specs.Extend.{extend}
 use Rattle.perms.specs.Laws.{a}
-use Rattle.perms.proofs.Test.{SameView, is, isnt, same?}
 use Rattle.perms.proofs.Perm.{rgt}
-use Rattle.perms.proofs.Range.{perm-identity}
+use Rattle.perms.proofs.Identity.{perm-identity}
 use Rattle.perms.proofs.Extend.{rgt-above, rgt-upper, identity-suc}
 use Rattle.perms.proofs.ExtendAscent.{asc-above, asc-upper}
 use Rattle.perms.proofs.Ascending.{Ascends}

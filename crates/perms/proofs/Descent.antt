@@ -8,12 +8,12 @@ use Prim.Native.Nat.{ℕ, zero, suc, pred, _+_, _≤_, _<_}
 use native.Mathlib.Omega.{arith}
 use lib.ListN.{length, getD, take}
 use lib.Seq.{take-suc}
-use Rattle.perms.specs.Lists.{less, bit, tally}
+use Rattle.lists.specs.Lists.{less, bit, tally}
+use Rattle.lists.proofs.Test.{LessView, lt, ge, less?, less-yes, less-no, less-true}
+use Rattle.lists.proofs.Tally.{tally-append, tally-mono}
 use Rattle.perms.specs.Permutation.{Perm, len, Letter}
 use Rattle.perms.specs.Tower.{above, entry, towerOf, Tower, imagesOf, descent}
 use Rattle.perms.specs.Laws.{at}
-use Rattle.perms.proofs.Test.{LessView, lt, ge, less?, less-yes, less-no, less-true}
-use Rattle.perms.proofs.Tally.{tally-append, tally-mono}
 use Rattle.perms.proofs.Perm.{swapAt, lft}
 use Rattle.perms.proofs.Products.{generator-product}
 use Rattle.perms.proofs.Longer.{len-swapAt}

@@ -5,10 +5,10 @@ use mathlib.Core.List.{List, [], _∷_, _++_, map, map-id}
 use Prim.Native.Nat.{ℕ, zero, suc, _+_, _-_, _≤_, _<_}
 use native.Mathlib.Omega.{arith}
 use lib.ListN.{length, getD}
-use Rattle.perms.specs.Lists.{less, range}
+use Rattle.lists.specs.Lists.{less, range}
+use Rattle.lists.proofs.Test.{SameView, is, isnt, LessView, lt, ge, same?, less?, less-yes, less-no}
 use Rattle.perms.specs.Permutation.{identity, swap}
 use Rattle.perms.specs.Extend.{bump, extend}
-use Rattle.perms.proofs.Test.{SameView, is, isnt, LessView, lt, ge, same?, less?, less-yes, less-no}
 use Rattle.perms.proofs.Swap.{swap-low, swap-high, swap-off, swap-lo, swap-hi, swap-suc}
 use Rattle.perms.proofs.Perm.{rgt, rgt-rgt}
 

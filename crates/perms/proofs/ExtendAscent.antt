@@ -6,9 +6,9 @@ use mathlib.Core.Bool.{true, false, not}
 use mathlib.Core.List.{List, [], _∷_}
 use Prim.Native.Nat.{ℕ, suc, _≤_, _<_}
 use native.Mathlib.Omega.{arith}
-use Rattle.perms.specs.Lists.{same, count, tally}
+use Rattle.lists.specs.Lists.{same, count, tally}
+use Rattle.lists.proofs.Test.{SameView, is, isnt, same?, same-no}
 use Rattle.perms.specs.Extend.{bump, extend}
-use Rattle.perms.proofs.Test.{SameView, is, isnt, same?, same-no}
 use Rattle.perms.proofs.Ascent.{before, ascR, ascR-rgt}
 use Rattle.perms.proofs.Extend.{rgt-upper}
 use Rattle.perms.proofs.Split.{same-bump, same-under, same-over, count-under}

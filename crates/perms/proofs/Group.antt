@@ -7,7 +7,7 @@ use lib.ListN.{length, getD}
 use lib.Seq.{ext-getD}
 use Rattle.perms.specs.Permutation.{Perm, image, product, identity, inverse}
 use Rattle.perms.specs.Laws.{Group}
-use Rattle.perms.proofs.Range.{perm-identity}
+use Rattle.perms.proofs.Identity.{perm-identity}
 use Rattle.perms.proofs.Image.{perm-image, At, count-at, perm-at}
 use Rattle.perms.proofs.Products.{length-product, image-product, image-identity, product-assoc, product-identity, identity-product, perm-generator}
 use Rattle.perms.proofs.Valid.{perm-of-each}

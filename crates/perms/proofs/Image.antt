@@ -6,9 +6,9 @@ use Prim.Native.Nat.{ℕ, zero, suc, _+_, _≤_, _<_}
 use native.Mathlib.Nat.{le-of-suc-le-suc}
 use native.Mathlib.Omega.{arith}
 use lib.ListN.{length, getD}
-use Rattle.perms.specs.Lists.{count, tally}
+use Rattle.lists.specs.Lists.{count, tally}
+use Rattle.lists.proofs.Test.{SameView, is, isnt, LessView, lt, ge, same?, less?, same-yes}
 use Rattle.perms.specs.Permutation.{Perm}
-use Rattle.perms.proofs.Test.{SameView, is, isnt, LessView, lt, ge, same?, less?, same-yes}
 use Rattle.perms.proofs.Perm.{Dist, dist-tail, perm-dist}
 
 count-getD : (w : List ℕ) (i : ℕ) → i < length w → 1 ≤ count (getD w i 0) w

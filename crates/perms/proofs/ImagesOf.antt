@@ -6,13 +6,13 @@ use Prim.Native.Nat.{ℕ, zero, suc, pred, _+_, _-_, _≤_, _<_}
 use native.Mathlib.Omega.{arith}
 use lib.ListN.{length, getD, take, length-append, List·getD-eq-default}
 use lib.Seq.{length-take-le, take-all, take-suc, getD-take}
-use Rattle.perms.specs.Lists.{range}
+use Rattle.lists.specs.Lists.{range}
+use Rattle.lists.proofs.Test.{LessView, lt, ge, less?}
 use Rattle.perms.specs.Permutation.{Perm, product, identity, Letter, Word, ofWord}
 use Rattle.perms.specs.Extend.{extend}
 use Rattle.perms.specs.Tower.{towerOf, Tower, cycle, cycles, standard, ofCycles, imagesOf}
-use Rattle.perms.proofs.Test.{LessView, lt, ge, less?}
 use Rattle.perms.proofs.Perm.{rgt, rgtWord}
-use Rattle.perms.proofs.Range.{perm-identity}
+use Rattle.perms.proofs.Identity.{perm-identity}
 use Rattle.perms.proofs.Image.{perm-image}
 use Rattle.perms.proofs.Products.{product-ofWord, ofWord-rgt}
 use Rattle.perms.proofs.Word.{word-cycle}

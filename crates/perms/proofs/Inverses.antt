@@ -1,16 +1,16 @@
--- The inverse at an index is the point whose image is there; it is the only list that holds each point at the index of its image. Rests on First,
--- Range and Image.
+-- The inverse at an index is the point whose image is there; it is the only list that holds each point at the index of its image. Rests on Image,
+-- and lists' First and Range.
 use mathlib.Core.Path.{_≡_, sym, ap, _∙_}
 use mathlib.Core.List.{List}
 use Prim.Native.Nat.{ℕ, suc, pred, _≤_, _<_}
 use native.Mathlib.Omega.{arith}
 use lib.ListN.{length, getD, length-map}
 use lib.Seq.{ext-getD}
-use Rattle.perms.specs.Lists.{same, range, first}
+use Rattle.lists.specs.Lists.{same, range, first}
+use Rattle.lists.proofs.Test.{same-yes, same-true}
+use Rattle.lists.proofs.First.{first-holds}
+use Rattle.lists.proofs.Range.{length-range, getD-range, getD-map}
 use Rattle.perms.specs.Permutation.{Perm, image, inverse}
-use Rattle.perms.proofs.Test.{same-yes, same-true}
-use Rattle.perms.proofs.First.{first-holds}
-use Rattle.perms.proofs.Range.{length-range, getD-range, getD-map}
 use Rattle.perms.proofs.Image.{perm-image, At, perm-at, perm-distinct}
 
 pub length-inverse : (w : List ℕ) → length (inverse w) ≡ length w

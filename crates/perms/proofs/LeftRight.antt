@@ -5,7 +5,7 @@ use mathlib.Core.List.{List, [], _∷_}
 use Prim.Native.Nat.{ℕ}
 use Rattle.perms.specs.Permutation.{Perm, identity, Word, ofWord}
 use Rattle.perms.proofs.Perm.{rgtWord, lft, perm-rgt, perm-lft}
-use Rattle.perms.proofs.Range.{perm-identity}
+use Rattle.perms.proofs.Identity.{perm-identity}
 use Rattle.perms.proofs.Products.{generator-product, ofWord-rgt}
 
 unfoldable pub lftWord : List ℕ → List ℕ → List ℕ

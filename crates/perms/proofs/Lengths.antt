@@ -4,7 +4,7 @@ use mathlib.Core.List.{List, [], _∷_, _++_}
 use Prim.Native.Nat.{ℕ, zero, suc, _+_, _-_}
 use native.Mathlib.Omega.{arith}
 use lib.ListN.{length, length-append}
-use Rattle.perms.specs.Lists.{less, bit, range, tally}
+use Rattle.lists.specs.Lists.{less, bit, range, tally}
 use Rattle.perms.specs.Permutation.{Perm, below, len, Shortest}
 use Rattle.perms.specs.Extend.{bump, extend}
 use Rattle.perms.specs.Tower.{above, towerOf, Tower, cycle, cycles, standard, imagesOf, total}

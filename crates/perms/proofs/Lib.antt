@@ -1,11 +1,6 @@
-pub mod Test
-pub mod Equal
-pub mod All
-pub mod First
-pub mod Tally
 pub mod Swap
 pub mod Perm
-pub mod Range
+pub mod Identity
 pub mod Image
 pub mod Products
 pub mod Ascent
@@ -34,14 +29,3 @@ pub mod Lengths
 pub mod Descent
 pub mod Towers
 pub mod Mask
-pub mod Prefix
-pub mod Fill
-pub mod Scatter
-pub mod Room
-pub mod Grow
-pub mod Spell
-pub mod Bitmask
-pub mod Verdicts
-pub mod Seen
-pub mod Writes
-pub mod Accepted

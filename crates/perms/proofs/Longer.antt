@@ -1,5 +1,5 @@
 -- The length under a generator: at an ascent the permutation becomes longer by one, elsewhere shorter by one, on either side. So an ascent is
--- where the generator makes it longer. Rests on Ascent and Range.
+-- where the generator makes it longer. Rests on Ascent and lists' Range.
 use mathlib.Core.Path.{_≡_, refl, sym, ap, ap₂, _∙_}
 use mathlib.Core.Bool.{Bool, true, false, not}
 use mathlib.Core.List.{List, [], _∷_}
@@ -7,12 +7,12 @@ use Prim.Native.Nat.{ℕ, zero, suc, _+_, _≤_, _<_}
 use native.Mathlib.Nat.{le-of-suc-le-suc}
 use native.Mathlib.Omega.{arith}
 use lib.ListN.{length, getD}
-use Rattle.perms.specs.Lists.{less, bit, count, tally}
+use Rattle.lists.specs.Lists.{less, bit, count, tally}
+use Rattle.lists.proofs.Test.{same-yes, same-no, same-sym, less-yes, less-no, less-true}
+use Rattle.lists.proofs.Range.{less-step}
 use Rattle.perms.specs.Permutation.{Perm, swap, below, len, Letter}
-use Rattle.perms.proofs.Test.{same-yes, same-no, same-sym, less-yes, less-no, less-true}
 use Rattle.perms.proofs.Swap.{SwapView, lo, hi, off, swap?, swap-swap, swap-lo, swap-hi, less-swap}
 use Rattle.perms.proofs.Perm.{rgt, swapAt, lft, rgt-rgt, lft-lft, count-rgt, tally-swapAt, perm-rgt, perm-lft, Dist, dist-tail, perm-dist}
-use Rattle.perms.proofs.Range.{less-step}
 use Rattle.perms.proofs.Ascent.{before, ascR, ascL, flipR, flipL}
 
 -- ---- two neighbours change places

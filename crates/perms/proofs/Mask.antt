@@ -1,5 +1,5 @@
 -- The mask of the numbers from 1 to m at which a test holds has m digits, and as many of them set as there are such numbers. Its digits one by
--- one and from the k-th on; the mask of one number more. Rests on Test.
+-- one and from the k-th on; the mask of one number more. Rests on lists' Test.
 use mathlib.Core.Path.{_≡_, refl, ap, ap₂, _∙_}
 use mathlib.Core.Logic.{_≢_}
 use mathlib.Core.Bool.{Bool, true, false}
@@ -8,9 +8,9 @@ use native.Mathlib.Nat.{add-comm}
 use native.Mathlib.Omega.{arith}
 use lib.Count.{ones, ones-cat}
 use lib.Pow.{pow-add, high, low}
-use Rattle.perms.specs.Lists.{bit}
+use Rattle.lists.specs.Lists.{bit}
+use Rattle.lists.proofs.Test.{SameView, is, isnt, same?}
 use Rattle.perms.specs.Tower.{mask, number}
-use Rattle.perms.proofs.Test.{SameView, is, isnt, same?}
 
 pub mask-lt : (p : ℕ → Bool) (m : ℕ) → mask p m < 2 ^ m
 unfolding mask

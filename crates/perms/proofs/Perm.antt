@@ -1,15 +1,15 @@
 -- A generator on the right swaps two values of an image list, on the left two positions. Each undoes itself and keeps permutations, and the
--- two commute. No value stands twice in a permutation. Rests on Swap and Tally.
+-- two commute. No value stands twice in a permutation. Rests on Swap and lists' Tally.
 use mathlib.Core.Path.{_≡_, refl, ap, _∙_, fun-ext}
 use mathlib.Core.Bool.{Bool}
 use mathlib.Core.List.{List, [], _∷_, map, map-map, map-id}
 use Prim.Native.Nat.{ℕ, zero, suc, pred, _+_, _≤_}
 use native.Mathlib.Omega.{arith}
 use lib.ListN.{length, length-map}
-use Rattle.perms.specs.Lists.{same, bit, count, tally}
+use Rattle.lists.specs.Lists.{same, bit, count, tally}
+use Rattle.lists.proofs.Test.{LessView, lt, ge, less?}
+use Rattle.lists.proofs.Tally.{tally-map}
 use Rattle.perms.specs.Permutation.{Perm, Letter, swap}
-use Rattle.perms.proofs.Test.{LessView, lt, ge, less?}
-use Rattle.perms.proofs.Tally.{tally-map}
 use Rattle.perms.proofs.Swap.{swap-swap, same-swap, swap-low, swap-high, swap-off}
 
 -- ---- the two actions

@@ -7,10 +7,11 @@ use native.Mathlib.Nat.{le-of-suc-le-suc}
 use native.Mathlib.Omega.{arith}
 use lib.ListN.{length, getD, length-map}
 use lib.Seq.{ext-getD}
+use Rattle.lists.proofs.Range.{getD-range, getD-map}
 use Rattle.perms.specs.Permutation.{Perm, image, product, identity, swap, generator, Letter, Word, ofWord}
 use Rattle.perms.proofs.Swap.{swap-off, swap-lo, swap-hi, swap-suc}
 use Rattle.perms.proofs.Perm.{rgt, rgtWord, swapAt, lft, swapAt-length, perm-rgt}
-use Rattle.perms.proofs.Range.{getD-range, getD-map, perm-identity}
+use Rattle.perms.proofs.Identity.{perm-identity}
 use Rattle.perms.proofs.Image.{perm-image}
 
 -- ---- images

@@ -5,11 +5,11 @@ use mathlib.Core.Bool.{true}
 use mathlib.Core.List.{List, [], _∷_}
 use Prim.Native.Nat.{ℕ, zero, suc, _+_, _≤_, _<_}
 use native.Mathlib.Omega.{arith}
-use Rattle.perms.specs.Lists.{range, tally}
+use Rattle.lists.specs.Lists.{range, tally}
+use Rattle.lists.proofs.Test.{SameView, is, isnt, same?, same-no, less-no}
 use Rattle.perms.specs.Permutation.{Perm, identity, generator, below, len, Letter, Word, ofWord, Shortest}
-use Rattle.perms.proofs.Test.{SameView, is, isnt, same?, same-no, less-no}
 use Rattle.perms.proofs.Perm.{rgtWord}
-use Rattle.perms.proofs.Range.{perm-identity}
+use Rattle.perms.proofs.Identity.{perm-identity}
 use Rattle.perms.proofs.Products.{product-identity, perm-generator, ofWord-rgt}
 use Rattle.perms.proofs.Ascent.{before, ascR}
 use Rattle.perms.proofs.LeftRight.{lftWord, perm-ofWord, ofWord-lft}

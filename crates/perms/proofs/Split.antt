@@ -4,10 +4,10 @@ use mathlib.Core.List.{List, [], _∷_}
 use mathlib.Core.Bool.{false}
 use Prim.Native.Nat.{ℕ, zero, suc, pred, _+_, _≤_, _<_}
 use native.Mathlib.Omega.{arith}
-use Rattle.perms.specs.Lists.{same, bit, count, tally}
+use Rattle.lists.specs.Lists.{same, bit, count, tally}
+use Rattle.lists.proofs.Test.{SameView, is, isnt, LessView, lt, ge, same?, less?, same-yes, same-no}
 use Rattle.perms.specs.Permutation.{Perm}
 use Rattle.perms.specs.Extend.{bump, extend}
-use Rattle.perms.proofs.Test.{SameView, is, isnt, LessView, lt, ge, same?, less?, same-yes, same-no}
 use Rattle.perms.proofs.Perm.{Dist, dist-tail, perm-dist}
 use Rattle.perms.proofs.Extend.{BumpView, under, over, bump?, bump-under, bump-over, length-extend}
 

@@ -6,13 +6,13 @@ use native.Mathlib.Nat.{le-of-suc-le-suc}
 use native.Mathlib.Omega.{arith}
 use lib.ListN.{length, getD, take, length-map, length-take, List·getD-eq-default}
 use lib.Seq.{take-all}
-use Rattle.perms.specs.Lists.{less, range}
+use Rattle.lists.specs.Lists.{less, range}
+use Rattle.lists.proofs.Test.{LessView, lt, ge, less?}
+use Rattle.lists.proofs.Tally.{tally-map, tally-size}
+use Rattle.lists.proofs.Range.{length-range, getD-range, getD-map}
 use Rattle.perms.specs.Permutation.{Perm}
 use Rattle.perms.specs.Extend.{bump, extend}
 use Rattle.perms.specs.Tower.{above, entry, towerOf, Tower}
-use Rattle.perms.proofs.Test.{LessView, lt, ge, less?}
-use Rattle.perms.proofs.Tally.{tally-map, tally-size}
-use Rattle.perms.proofs.Range.{length-range, getD-range, getD-map}
 use Rattle.perms.proofs.Above.{above-step, above-none}
 use Rattle.perms.proofs.Extend.{length-extend, less-bump, less-room}
 use Rattle.perms.proofs.Split.{Tail}

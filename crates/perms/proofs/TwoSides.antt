@@ -9,12 +9,12 @@ use native.Mathlib.Nat.{le-of-suc-le-suc}
 use native.Mathlib.Omega.{arith}
 use lib.ListN.{length, getD, length-map}
 use lib.Seq.{ext-getD}
-use Rattle.perms.specs.Lists.{same, less}
+use Rattle.lists.specs.Lists.{same, less}
+use Rattle.lists.proofs.Test.{SameView, is, isnt, same?, same-yes, same-no, less-yes, less-no}
+use Rattle.lists.proofs.Range.{getD-map}
 use Rattle.perms.specs.Permutation.{Perm, swap, Letter}
-use Rattle.perms.proofs.Test.{SameView, is, isnt, same?, same-yes, same-no, less-yes, less-no}
 use Rattle.perms.proofs.Swap.{SwapView, lo, hi, off, swap?, swap-swap, swap-off, swap-lo, swap-hi, less-swap}
 use Rattle.perms.proofs.Perm.{rgt, lft, swapAt, swapAt-length, Dist, dist-tail, perm-dist}
-use Rattle.perms.proofs.Range.{getD-map}
 use Rattle.perms.proofs.Image.{perm-image, dist-head, perm-distinct}
 use Rattle.perms.proofs.Products.{getD-swapAt}
 use Rattle.perms.proofs.Ascent.{before, ascR, ascL, before-not, flipR, flipL}

@@ -6,11 +6,11 @@ use mathlib.Core.List.{List, [], _∷_}
 use Prim.Native.Nat.{ℕ, zero, suc, pred, _+_, _-_, _≤_, _<_, suc-le-suc}
 use native.Mathlib.Omega.{arith}
 use lib.ListN.{length, getD, take}
-use Rattle.perms.specs.Lists.{same, less, bit, count, tally}
+use Rattle.lists.specs.Lists.{same, less, bit, count, tally}
+use Rattle.lists.proofs.Test.{SameView, is, isnt, LessView, lt, ge, same?, less?, less-yes, same-true}
+use Rattle.lists.proofs.Tally.{tally-mono}
 use Rattle.perms.specs.Permutation.{Perm}
 use Rattle.perms.specs.Tower.{above}
-use Rattle.perms.proofs.Test.{SameView, is, isnt, LessView, lt, ge, same?, less?, less-yes, same-true}
-use Rattle.perms.proofs.Tally.{tally-mono}
 use Rattle.perms.proofs.Perm.{Dist}
 use Rattle.perms.proofs.Image.{At, at-count}
 use Rattle.perms.proofs.Above.{above-step, above-none}

@@ -1,15 +1,15 @@
 -- Which lists are words: two words joined, a word of lower rank, and the word of a(j, k), with its letters one by one, their bounds, and its
--- parts. Rests on All.
+-- parts. Rests on lists' All.
 use mathlib.Core.Path.{_≡_, refl, sym, ap, ap₂, _∙_}
 use mathlib.Core.List.{List, [], _∷_, _++_, map}
 use Prim.Native.Nat.{ℕ, zero, suc, pred, _+_, _-_, _≤_, _<_}
 use native.Mathlib.Nat.{sub-zero, zero-add}
 use native.Mathlib.Omega.{arith}
 use lib.ListN.{length, getD}
-use Rattle.perms.specs.Lists.{All}
+use Rattle.lists.specs.Lists.{All}
+use Rattle.lists.proofs.All.{all-append}
 use Rattle.perms.specs.Permutation.{Letter, Word}
 use Rattle.perms.specs.Tower.{cycle}
-use Rattle.perms.proofs.All.{all-append}
 
 pub word-append : (m : ℕ) (x y : List ℕ) → Word m x → Word m y → Word m (x ++ y)
 word-append m = all-append (Letter m)

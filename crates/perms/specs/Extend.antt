@@ -5,7 +5,7 @@
 use mathlib.Core.Bool.{cond}
 use mathlib.Core.List.{List, [], _∷_}
 use Prim.Native.Nat.{ℕ, suc}
-use Rattle.perms.specs.Lists.{less}
+use Rattle.lists.specs.Lists.{less}
 
 unfoldable pub bump : ℕ → ℕ → ℕ
 bump c v = cond (less v c) v (suc v)

@@ -1,6 +1,5 @@
 -- What document 01 says of permutations and towers, as claims about the definitions, for every rank.
 --
---   Checks          what the checks accept: permutations and towers within document 01's sizes, and nothing else
 --   Group           the permutations of rank m are a group under the product
 --   at t i          the entry a_i of a tower t, with a_0 = 0
 --   Towers          towers and permutations undo each other; tower product and inverse; lengths, standard words and descents
@@ -11,16 +10,9 @@ use mathlib.Core.Logic.{_↔_}
 use mathlib.Core.Bool.{true}
 use mathlib.Core.List.{List, _∷_}
 use Prim.Native.Nat.{ℕ, pred, _+_, _-_, _≤_, _<_}
-use lib.ListN.{length, getD}
-use Rattle.perms.specs.declared.Verdict.the-variants.{Accepted}
+use lib.ListN.{getD}
 use Rattle.perms.specs.Permutation.{Perm, product, identity, inverse, generator, len, Letter, ofWord, Shortest}
 use Rattle.perms.specs.Tower.{towerOf, Tower, cycle, standard, imagesOf, total, descent}
-use Rattle.perms.specs.Calls.{imagesVerdict, towerVerdict, towersVerdict}
-
-pub record Checks : Type 0 where
-  pub images : (w : List ℕ) → (imagesVerdict w ≡ Accepted) ↔ ((1 ≤ length w) × (length w ≤ 64) × Perm (pred (length w)) w)
-  pub tower : (t : List ℕ) → (towerVerdict t ≡ Accepted) ↔ ((length t ≤ 63) × Tower (length t) t)
-  pub towers : (t u : List ℕ) → (towersVerdict t u ≡ Accepted) ↔ ((length t ≤ 63) × (length t ≡ length u) × Tower (length t) t × Tower (length u) u)
 
 pub record Group (m : ℕ) : Type 0 where
   pub product-perm : (u v : List ℕ) → Perm m u → Perm m v → Perm m (product u v)

@@ -18,7 +18,7 @@ use mathlib.Core.Bool.{cond}
 use mathlib.Core.List.{List, [], _∷_, map}
 use Prim.Native.Nat.{ℕ, suc, pred, _+_, _≤_, _<_}
 use lib.ListN.{length, getD}
-use Rattle.perms.specs.Lists.{same, less, range, first, All, tally, count}
+use Rattle.lists.specs.Lists.{same, less, range, first, All, tally, count}
 
 -- ---- permutations
 

@@ -18,7 +18,7 @@ use mathlib.Core.Bool.{Bool}
 use mathlib.Core.List.{List, [], _∷_, _++_, map}
 use Prim.Native.Nat.{ℕ, zero, suc, pred, _+_, _*_, _^_, _≤_}
 use lib.ListN.{length, getD, take}
-use Rattle.perms.specs.Lists.{less, bit, tally, range}
+use Rattle.lists.specs.Lists.{less, bit, tally, range}
 use Rattle.perms.specs.Permutation.{image, product, identity, generator, len, ofWord}
 
 unfoldable pub above : ℕ → List ℕ → ℕ

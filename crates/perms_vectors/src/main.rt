@@ -1,4 +1,4 @@
-// Reads calls of `perms`, runs them, and writes a line for each: the call's answer and then the bytes of its buffer.
+// Reads calls of `towers` and `tower_words`, runs them, and writes a line for each: the call's answer and then the bytes of its buffer.
 // The stored input and output are made by the reference program.
 //
 // A call is a byte, from 1 for tower_of to 7 for descents in the order of `run`; a list; for a product a second list; and,
@@ -10,10 +10,10 @@
 ghost use mathlib.Core.Path.{_≡_};
 ghost use Prim.Native.Nat.{_≤_};
 ghost use lib.ListN.{length};
-use perms::Counted;
-use perms::Generators;
-use perms::Refusal;
-use perms::Verdict;
+use perm_calls::Counted;
+use perm_calls::Generators;
+use refusals::Refusal;
+use refusals::Verdict;
 use vector_io::print_field;
 
 // What is read of the input: a byte, or nothing more.
@@ -57,8 +57,8 @@ fn read_second(call: u8, list: &mut [u8]) -> Read
 
 fn print_refusal(why: Refusal) {
     io::write_all(1, b"E");
-    print_field(perms::number_of(why) as u64);
-    print_field(perms::place_of(why) as u64);
+    print_field(refusals::number_of(why) as u64);
+    print_field(refusals::place_of(why) as u64);
 }
 
 fn print_verdict(answer: Verdict) {
@@ -93,13 +93,13 @@ fn print_generators(answer: Generators) {
 
 fn run(call: u8, first: &[u8], second: &[u8], buffer: &mut [u8]) {
     match call {
-        1 => print_verdict(perms::tower_of(first, buffer)),
-        2 => print_verdict(perms::images_of(first, buffer)),
-        3 => print_verdict(perms::inverse(first, buffer)),
-        4 => print_verdict(perms::product(first, second, buffer)),
-        5 => print_counted(perms::length(first)),
-        6 => print_counted(perms::standard_word(first, buffer)),
-        _ => print_generators(perms::descents(first)),
+        1 => print_verdict(towers::tower_of(first, buffer)),
+        2 => print_verdict(towers::images_of(first, buffer)),
+        3 => print_verdict(towers::inverse(first, buffer)),
+        4 => print_verdict(towers::product(first, second, buffer)),
+        5 => print_counted(tower_words::length(first)),
+        6 => print_counted(tower_words::standard_word(first, buffer)),
+        _ => print_generators(tower_words::descents(first)),
     }
 }
 

@@ -1,17 +1,14 @@
--- The calls of a command in range, on registers of 4 × 720 words: what is printed at the front of the buffer, and the machine after it. Rests on the
--- definitions alone.
+-- The text of a command in range, with registers of 4 × 720 words, is put at the front of the buffer. Rests on the definitions alone.
 use mathlib.Core.Path.{_≡_, sym, ap, _∙_}
 use mathlib.Core.Bool.{true}
 use mathlib.Core.List.{List}
 use Prim.Native.Nat.{ℕ, _≤_}
 use lib.ListN.{length, take}
 use lib.Seq.{take-append-seam}
-use Rattle.perms.proofs.Test.{same-yes, less-no}
+use Rattle.lists.specs.Overwrite.{overwrite}
+use Rattle.lists.proofs.Test.{same-yes, less-no}
+use Rattle.sheet_format.specs.declared.Command.{Command}
 use Rattle.sheet.specs.Check.{inRange}
-use Rattle.sheet.specs.declared.Command.{Command}
-use Rattle.runner.specs.Run as run
-use Rattle.runner.specs.declared.Answer.the-variants.{Obeyed}
-use Rattle.runner.specs.Registers.{overwrite}
 use Rattle.output.specs.Text.{room}
 use Rattle.output.specs.Printed.{Outcome, text, front, textCall}
 use Rattle.run_sheet.specs.Pieces.{machine}
@@ -24,7 +21,3 @@ module _ (m q : ℕ) (c : Command) (x : List ℕ) (range : inRange m c ≡ true)
   pub text-put : (n : ℕ) (t : List ℕ) {o : Outcome} → room ≤ length t → textCall m q c x n t ≡ o → take (o .size) (o .lent) ≡ text m q c (machine x n)
   unfolding textCall
   text-put n t h e = front-taken _ t (rw (less-no {x = length t} {a = room} h, same-yes four, range) at e)
-
-  pub step-made : {o : run.Outcome} → run.stepCall m q c x ≡ o → record { answer = Obeyed (run.cost m c); lent = run.obey m q c x } ≡ o
-  unfolding run.stepCall
-  step-made e = rw (range, same-yes four) at e

@@ -1,5 +1,5 @@
--- The loop that obeys the commands of an accepted sheet and gathers what they print: what it holds at an offset. Rests on Called, output's Front, and
--- runner's Ahead and Costs.
+-- The loop that obeys the commands of an accepted sheet and gathers what they print: what it holds at an offset. Rests on Called, output's Front,
+-- runner's Ahead, and machine's Costs and Called.
 --
 --   Filling s from x t used at y   the sheet s is obeyed from one offset to another, the machine is x before and y after it, and what is printed are the
 --                                  first `used` bytes of t
@@ -13,22 +13,24 @@ use native.Mathlib.Omega.{arith}
 use lib.ListN.{length, take}
 use lib.Seq.{length-take-le, take-append-le, take-append-add}
 use borrow.Rule.Slice.PartMut.{midOf, putMid, mid-len, same-len-mid}
-use Rattle.sheet.specs.Format.{decode}
-use Rattle.sheet.specs.Check.{rank, parameter, inRange}
-use Rattle.sheet.specs.declared.Command.{Command}
-use Rattle.sheet.specs.declared.Decoded.the-variants.{Found}
+use Rattle.sheet_format.specs.Format.{decode, rank, parameter}
+use Rattle.sheet_format.specs.declared.Command.{Command}
+use Rattle.sheet_format.specs.declared.Decoded.the-variants.{Found}
+use Rattle.sheet.specs.Check.{inRange}
 use Rattle.sheet.proofs.InRange.{low}
 use Rattle.sheet.proofs.Accepted.{Next, accepted-start, accepted-next}
-use Rattle.runner.specs.Run.{Machine, after, obey, cost, stepCall}
-use Rattle.runner.specs.declared.Answer.{Answer}
-use Rattle.runner.specs.declared.Answer.the-variants.{Obeyed}
-use Rattle.runner.proofs.Costs.{cost-small}
+use Rattle.machine.specs.Step.{obey, cost, stepCall}
+use Rattle.machine.specs.declared.Answer.{Answer}
+use Rattle.machine.specs.declared.Answer.the-variants.{Obeyed}
+use Rattle.machine.proofs.Costs.{cost-small}
+use Rattle.machine.proofs.Called.{step-made}
+use Rattle.runner.specs.Run.{Machine, after}
 use Rattle.runner.proofs.Ahead.{Onward, onward}
 use Rattle.output.specs.Text.{room}
 use Rattle.output.specs.Printed.{text, texts, textCall}
 use Rattle.output.proofs.Front.{text-within}
 use Rattle.run_sheet.specs.Pieces.{machine, rest, Ready, Piece}
-use Rattle.run_sheet.proofs.Called.{text-put, step-made}
+use Rattle.run_sheet.proofs.Called.{text-put}
 
 pub record Filling (s : List ℕ) (from : ℕ) (x : Machine) (t : List ℕ) (used at : ℕ) (y : Machine) : Type 0 where
   pub printed : take used t ++ rest s at y ≡ rest s from x

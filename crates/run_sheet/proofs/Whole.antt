@@ -6,8 +6,9 @@ use mathlib.Core.List.{List, [], _++_, append-assoc, append-nil}
 use Prim.Native.Nat.{ℕ, _≤_}
 use native.Mathlib.Omega.{arith}
 use lib.ListN.{length, take}
-use Rattle.sheet.specs.Check.{rank, parameter, checkSheet}
-use Rattle.sheet.specs.declared.Verdict.the-variants.{Accepted}
+use Rattle.refusals.specs.declared.Verdict.the-variants.{Accepted}
+use Rattle.sheet_format.specs.Format.{rank, parameter}
+use Rattle.sheet.specs.Check.{checkSheet}
 use Rattle.runner.specs.Run.{Machine, start}
 use Rattle.runner.proofs.Ahead.{ahead-start, ahead-end, reaches-start}
 use Rattle.output.specs.Printed.{texts, printed}

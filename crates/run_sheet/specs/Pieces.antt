@@ -9,8 +9,9 @@ use mathlib.Core.Path.{_≡_}
 use mathlib.Core.List.{List, _++_}
 use Prim.Native.Nat.{ℕ, suc, _-_, _*_, _≤_, _<_}
 use lib.ListN.{length, take}
-use Rattle.sheet.specs.Check.{rank, parameter, placedFrom, firstRefusal, checkSheet}
-use Rattle.sheet.specs.declared.Verdict.the-variants.{Accepted}
+use Rattle.refusals.specs.declared.Verdict.the-variants.{Accepted}
+use Rattle.sheet_format.specs.Format.{rank, parameter}
+use Rattle.sheet.specs.Check.{placedFrom, firstRefusal, checkSheet}
 use Rattle.runner.specs.Run.{Machine, commands}
 use Rattle.output.specs.Printed.{texts}
 

@@ -3,15 +3,16 @@
 ghost use mathlib.Core.Path.{_≡_};
 ghost use Prim.Native.Nat.{_≤_};
 ghost use lib.ListN.{length};
-ghost use Rattle.sheet.specs.Check.{rank, parameter, checkSheet};
-ghost use Rattle.sheet.specs.declared.Verdict.the-variants.{Accepted};
+ghost use Rattle.refusals.specs.declared.Verdict.the-variants.{Accepted};
+ghost use Rattle.sheet_format.specs.Format.{rank, parameter};
+ghost use Rattle.sheet.specs.Check.{checkSheet};
 ghost use Rattle.output.specs.Text.{room};
 ghost use Rattle.run_sheet.specs.Pieces.{machine, Ready, Piece};
 use libc::STDIN_FILENO;
 use libc::STDOUT_FILENO;
-use runner::Answer;
-use sheet::Decoded;
-use sheet::Verdict;
+use machine::Answer;
+use refusals::Verdict;
+use sheet_format::Decoded;
 
 // A piece of text: the offset and the count after it, and its size.
 struct Filled {
@@ -40,12 +41,12 @@ fn fill(
     let mut count = counted;
     let mut used = 0;
     while at < sheet.len() && output::ROOM <= buffer.len() - used {
-        let found = sheet::read(sheet, at);
+        let found = sheet_format::read(sheet, at);
         let Decoded::Found(command, after) = found else {
             return Filled { at, count, used };
         };
         used += output::text(m, q, command, x, count, &mut buffer[used..]);
-        let obeyed = runner::step(m, q, command, x);
+        let obeyed = machine::step(m, q, command, x);
         let Answer::Obeyed(n) = obeyed else {
             return Filled { at, count, used };
         };
@@ -59,8 +60,8 @@ fn fill(
 fn obey_all(sheet: &[u8], buffer: &mut [u8])
     requires { ⌜ (checkSheet (now sheet) ≡ Accepted) × (room ≤ length (now buffer)) ⌝ }
 {
-    let m = sheet::rank(sheet);
-    let q = sheet::parameter(sheet);
+    let m = sheet_format::rank(sheet);
+    let q = sheet_format::parameter(sheet);
     let mut x = [0u64; 2880];
     let mut count = 0;
     let mut at = 0;

@@ -11,14 +11,14 @@ use mathlib.Core.List.{List, [], _∷_}
 use Prim.Native.Nat.{ℕ, zero, suc, _-_, _≤_, _<_}
 use native.Mathlib.Omega.{arith}
 use lib.ListN.{length}
-use Rattle.perms.specs.Lists.{All}
-use Rattle.perms.proofs.Test.{LessView, lt, ge, less?}
-use Rattle.sheet.specs.Format.{decode}
-use Rattle.sheet.specs.Check.{rank, inRange, placedFrom, placed, checkSheet}
-use Rattle.sheet.specs.declared.Command.{Command}
-use Rattle.sheet.specs.declared.Decoded.the-variants.{Found}
-use Rattle.sheet.specs.declared.Verdict.the-variants.{Accepted}
-use Rattle.sheet.proofs.Offsets.{found-within, past-end}
+use Rattle.lists.specs.Lists.{All}
+use Rattle.lists.proofs.Test.{LessView, lt, ge, less?}
+use Rattle.refusals.specs.declared.Verdict.the-variants.{Accepted}
+use Rattle.sheet_format.specs.Format.{decode, rank}
+use Rattle.sheet_format.specs.declared.Command.{Command}
+use Rattle.sheet_format.specs.declared.Decoded.the-variants.{Found}
+use Rattle.sheet_format.proofs.Offsets.{found-within, past-end}
+use Rattle.sheet.specs.Check.{inRange, placedFrom, placed, checkSheet}
 use Rattle.sheet.proofs.InRange.{low}
 use Rattle.sheet.proofs.Limit.{placed-enough}
 use Rattle.sheet.proofs.CheckFrom.{checkFrom}

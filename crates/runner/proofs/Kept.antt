@@ -10,22 +10,26 @@ use native.Mathlib.Omega.{arith}
 use lib.ListN.{length, getD, take, drop, length-set, length-replicate, List·getD-append, getD-replicate, replicate}
 use lib.Seq.{length-take-le, getD-append-add, getD-take, getD-drop}
 use Rattle.ring.specs.Modular.{words}
-use Rattle.perms.specs.Lists.{All}
+use Rattle.lists.specs.Lists.{All}
+use Rattle.lists.specs.Numbers.{factorial}
+use Rattle.lists.specs.Overwrite.{overwrite}
+use Rattle.lists.proofs.Test.{LessView, lt, ge, less?}
+use Rattle.lists.proofs.Overwrite.{overwrite-size}
 use Rattle.perms.specs.Permutation.{identity}
-use Rattle.perms.proofs.Test.{LessView, lt, ge, less?}
-use Rattle.algebra.specs.Numbers.{factorial}
 use Rattle.algebra.specs.Element.{unit}
 use Rattle.algebra.specs.Product.{minusOne}
 use Rattle.algebra.proofs.Lists.{plus-length, scale-length}
 use Rattle.algebra.proofs.Coefficients.{basis-length}
 use Rattle.algebra.proofs.CoefficientActions.{act-length, times-length}
+use Rattle.ranks.proofs.Sizes.{sheet-size-small}
+use Rattle.sheet_format.specs.declared.Command.{Command}
+use Rattle.sheet_format.specs.declared.Command.the-variants as K
 use Rattle.sheet.specs.Check.{inRange}
-use Rattle.sheet.specs.declared.Command.{Command}
-use Rattle.sheet.specs.declared.Command.the-variants as K
 use Rattle.sheet.proofs.InRange.{Within, low, within}
-use Rattle.runner.specs.Registers.{element, overwrite, put, zeros}
-use Rattle.runner.specs.Run.{obey, Machine, after, obeyAll}
-use Rattle.runner.proofs.Put.{size-small, overwrite-size, element-size}
+use Rattle.machine.specs.Registers.{element, put, zeros}
+use Rattle.machine.specs.Step.{obey}
+use Rattle.machine.proofs.Put.{element-size}
+use Rattle.runner.specs.Run.{Machine, after, obeyAll}
 
 pub record Kept (M : ℕ) (x : List ℕ) : Type 0 where
   pub four : length x ≡ 2880
@@ -76,7 +80,7 @@ module _ (m q : ℕ) where
       M = factorial (suc m)
 
       putting : {y : List ℕ} (r : ℕ) (h : List ℕ) → r < 4 → length h ≡ M → Kept M y → Kept M (put r h y)
-      putting = kept-put (size-small m rank)
+      putting = kept-put (sheet-size-small m rank)
 
       -- the element of register r
       sized : (r : ℕ) → r < 4 → Kept M x → length (element m r x) ≡ M

@@ -1,4 +1,4 @@
--- The loop that obeys the commands of an accepted sheet: what it holds at an offset. Rests on Ahead, Costs and sheet's InRange.
+-- The loop that obeys the commands of an accepted sheet: what it holds at an offset. Rests on Ahead, sheet's InRange, and machine's Costs and Called.
 --
 --   Running m q s old at count x        from the registers old, the sheet s of rank m with the word q is obeyed up to an offset; the registers are now x
 --   Turn m q s old at count x c after   the same where the command c stands at the offset
@@ -8,15 +8,20 @@ use mathlib.Core.List.{List}
 use Prim.Native.Nat.{ℕ, _+_, _*_, _≤_, _<_}
 use native.Mathlib.Omega.{arith}
 use lib.ListN.{length}
-use Rattle.sheet.specs.Format.{decode}
-use Rattle.sheet.specs.Check.{rank, parameter, inRange, placed, checkSheet}
-use Rattle.sheet.specs.declared.Command.{Command}
-use Rattle.sheet.specs.declared.Decoded.the-variants.{Found}
-use Rattle.sheet.specs.declared.Verdict.the-variants.{Accepted}
+use Rattle.refusals.specs.Refusals.{Outcome}
+use Rattle.refusals.specs.declared.Verdict.the-variants.{Accepted}
+use Rattle.sheet_format.specs.Format.{decode, rank, parameter}
+use Rattle.sheet_format.specs.declared.Command.{Command}
+use Rattle.sheet_format.specs.declared.Decoded.the-variants.{Found}
+use Rattle.sheet.specs.Check.{inRange, placed, checkSheet}
 use Rattle.sheet.proofs.InRange.{low}
 use Rattle.sheet.proofs.Accepted.{Next, accepted-start, accepted-next}
-use Rattle.runner.specs.Run.{obey, cost, obeyAll, commands}
-use Rattle.runner.proofs.Costs.{cost-small}
+use Rattle.machine.specs.Step.{obey, cost, stepCall}
+use Rattle.machine.specs.declared.Answer.{Answer}
+use Rattle.machine.specs.declared.Answer.the-variants.{Obeyed}
+use Rattle.machine.proofs.Costs.{cost-small}
+use Rattle.machine.proofs.Called.{step-made}
+use Rattle.runner.specs.Run.{obeyAll, commands}
 use Rattle.runner.proofs.Ahead.{ahead, Reaches, Onward, ahead-start, ahead-end, reaches-start, onward}
 
 pub record Running (m q : ℕ) (s old : List ℕ) (at count : ℕ) (x : List ℕ) : Type 0 where
@@ -65,8 +70,16 @@ module _ {m q : ℕ} {s old x : List ℕ} {at count after : ℕ} {c : Command} (
   pub turn-range : inRange m c ≡ true
   turn-range = rw (t .held .rank-is) (next .range)
 
+  -- the step obeys it
+  pub turn-obeyed : {o : Outcome Answer (List ℕ)} → stepCall m q c x ≡ o → record { answer = Obeyed (cost m c); lent = obey m q c x } ≡ o
+  turn-obeyed e = step-made m q c x turn-range (t .held .four) e
+
   pub turn-cost : {n : ℕ} → n ≡ cost m c → n ≤ 2027640
   turn-cost e = omega (arith, cost-small m c (low m c turn-range))
+
+  -- n is what the step answered
+  pub obeyed-cost : {a : Answer} {y : List ℕ} {n : ℕ} → stepCall m q c x ≡ record { answer = a; lent = y } → a ≡ Obeyed n → n ≡ cost m c
+  obeyed-cost e f = cc (sym (ap (λ o. o .answer) (turn-obeyed e)), f)
 
   pub running-more : {y : List ℕ} {n : ℕ} → y ≡ obey m q c x → length y ≡ length x → n ≡ cost m c → Running m q s old after (count + n) y
   unfolding obeyAll

@@ -1,16 +1,25 @@
--- What holds of the run of every sheet: the record `Runs`. Rests on Kept, Ahead and sheet's InRange.
+-- What holds of the run of every sheet: the record `Runs`. Rests on Kept, Ahead, sheet's Table and refusals' Ended.
 use mathlib.Core.Path.{_≡_, refl, sym, ap, _∙_}
+use mathlib.Core.Bool.{not}
 use mathlib.Core.List.{List}
 use Prim.Native.Nat.{ℕ, _+_, _*_, _-_, _<_}
 use native.Mathlib.Omega.{arith}
 use lib.ListN.{length, drop, replicate, length-drop, length-replicate, getD-replicate}
 use lib.Seq.{length-take-le, getD-take, getD-drop, ext-getD}
-use Rattle.sheet.specs.Check.{rank, parameter, size, placed, checkSheet}
-use Rattle.sheet.specs.declared.Verdict.{Verdict}
-use Rattle.sheet.specs.declared.Verdict.the-variants.{Accepted, Refused}
-use Rattle.sheet.proofs.InRange.{sized}
-use Rattle.runner.specs.Registers.{register}
-use Rattle.runner.specs.Run.{start, commands, ran}
+use Rattle.lists.specs.Lists.{same}
+use Rattle.refusals.specs.Refusals.{_then_, unless, answerReport, Keeps}
+use Rattle.refusals.specs.declared.Verdict.{Verdict}
+use Rattle.refusals.specs.declared.Verdict.the-variants.{Accepted, Refused}
+use Rattle.refusals.specs.declared.Refusal.the-variants.{Buffer}
+use Rattle.refusals.proofs.Verdicts.{near-then, near-unless}
+use Rattle.refusals.proofs.Ended.{ended-keeps}
+use Rattle.ranks.specs.Ranks.{size}
+use Rattle.ranks.proofs.Sizes.{size-is}
+use Rattle.sheet_format.specs.Format.{rank, parameter}
+use Rattle.sheet.specs.Check.{placed, checkSheet}
+use Rattle.sheet.proofs.Table.{exactly}
+use Rattle.machine.specs.Registers.{register}
+use Rattle.runner.specs.Run.{start, commands, obeyed, ran, runVerdict, runCall}
 use Rattle.runner.specs.Runs.{Runs}
 use Rattle.runner.proofs.Ahead.{rank-low, all-in-range}
 use Rattle.runner.proofs.Kept.{Kept, kept-zeros, kept-all}
@@ -33,7 +42,14 @@ module _ {M : ℕ} {x : List ℕ} (k : Kept M x) (r : ℕ) (four : r < 4) where
 
 kept : (s : List ℕ) (v : Verdict) → checkSheet s ≡ v → Kept (size (rank s)) (ran v s .words)
 kept s (Refused why) e = kept-zeros (size (rank s))
-kept s Accepted e = rw (sized (rank s) (rank-low s e)) (kept-all (rank s) (parameter s) (commands (placed s)) start (all-in-range s e) (kept-zeros _))
+kept s Accepted e = rw (size-is (rank s) (omega (arith, rank-low s e))) (kept-all (rank s) (parameter s) (commands (placed s)) start (all-in-range s e) (kept-zeros _))
+
+keeps : (s x : List ℕ) → Keeps (answerReport (runCall s x .answer)) x (runCall s x .lent)
+unfolding runCall runVerdict
+keeps s x =
+    let four = not (same (length x) 2880) in
+    ended-keeps answerReport (checkSheet s then unless four Buffer) _ _ (obeyed s .count) x _ (λ why. refl) refl
+    (near-then (checkSheet s) (unless four Buffer) (exactly s .report .near) (λ e. near-unless four Buffer (λ t. omega arith)))
 
 pub runs : (s : List ℕ) → Runs s
 runs s = let k = kept s (checkSheet s) refl in record {
@@ -41,4 +57,5 @@ runs s = let k = kept s (checkSheet s) refl in record {
   past = register-past k;
   refused = λ why e. rw e refl;
   obeyed = all-in-range s;
+  lent = keeps s;
 }

@@ -1,4 +1,2 @@
-pub mod Registers
 pub mod Run
 pub mod Runs
-pub mod Steps

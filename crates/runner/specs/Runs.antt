@@ -2,18 +2,21 @@
 --
 --   words s     the words of the registers after the sheet s
 --   Runs s      the claim: each register has 720 words and is zero past M; a refused sheet leaves all words zero and the count 0; in an accepted
---               sheet each command is in range, so that the step obeys it
+--               sheet each command is in range, so that the step obeys it; on lent registers a refusal counts 0 and leaves them as they were
 use mathlib.Core.Path.{_≡_}
 use mathlib.Core.Bool.{true}
 use mathlib.Core.List.{List}
 use Prim.Native.Nat.{ℕ, _-_, _<_}
 use lib.ListN.{length, drop, replicate}
-use Rattle.perms.specs.Lists.{All}
-use Rattle.sheet.specs.Check.{rank, size, inRange, placed, checkSheet}
-use Rattle.sheet.specs.declared.Refusal.{Refusal}
-use Rattle.sheet.specs.declared.Verdict.the-variants.{Accepted, Refused}
-use Rattle.runner.specs.Registers.{register}
-use Rattle.runner.specs.Run.{start, commands, ran}
+use Rattle.lists.specs.Lists.{All}
+use Rattle.refusals.specs.Refusals.{answerReport, Keeps}
+use Rattle.refusals.specs.declared.Refusal.{Refusal}
+use Rattle.refusals.specs.declared.Verdict.the-variants.{Accepted, Refused}
+use Rattle.ranks.specs.Ranks.{size}
+use Rattle.sheet_format.specs.Format.{rank}
+use Rattle.sheet.specs.Check.{inRange, placed, checkSheet}
+use Rattle.machine.specs.Registers.{register}
+use Rattle.runner.specs.Run.{start, commands, ran, runCall}
 
 abbrev pub words : List ℕ → List ℕ
 words s = ran (checkSheet s) s .words
@@ -23,3 +26,4 @@ pub record Runs (s : List ℕ) : Type 0 where
   pub past : (r : ℕ) → r < 4 → drop (size (rank s)) (register r (words s)) ≡ replicate (720 - size (rank s)) 0
   pub refused : (why : Refusal) → checkSheet s ≡ Refused why → ran (checkSheet s) s ≡ start
   pub obeyed : checkSheet s ≡ Accepted → All (λ c. inRange (rank s) c ≡ true) (commands (placed s))
+  pub lent : (x : List ℕ) → Keeps (answerReport (runCall s x .answer)) x (runCall s x .lent)

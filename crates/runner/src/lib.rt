@@ -1,26 +1,17 @@
 // The run of a sheet, on four registers of 720 words each. The sheet is checked whole before anything runs.
 
 ghost use mathlib.Core.Path.{_≡_};
-ghost use mathlib.Core.Bool.{true};
 ghost use Prim.Native.Nat.{_<_};
 ghost use lib.ListN.{length};
-ghost use Rattle.sheet.specs.Check.{rank, parameter, inRange, placed, checkSheet};
-ghost use Rattle.sheet.specs.declared.Verdict.the-variants.{Accepted};
-ghost use Rattle.runner.specs.Registers.{register};
-ghost use Rattle.runner.specs.Run.{obey, cost, obeyAll, commands, stepCall, runSheet};
-use sheet::Command;
-use sheet::Decoded;
-use sheet::Verdict;
-
-mod registers;
-
-// The answer of one command.
-pub enum Answer {
-    // Obeyed, with the count of its ring operations.
-    Obeyed(u64),
-    // Nothing done: an operand out of range, or registers of another size than 4 x 720 words.
-    NotObeyed,
-}
+ghost use Rattle.refusals.specs.declared.Verdict.the-variants.{Accepted};
+ghost use Rattle.sheet_format.specs.Format.{rank, parameter};
+ghost use Rattle.sheet.specs.Check.{placed, checkSheet};
+ghost use Rattle.machine.specs.Registers.{register};
+ghost use Rattle.runner.specs.Run.{obeyAll, commands, runCall, runSheet};
+use machine::Answer;
+use refusals::Refusal;
+use refusals::Verdict;
+use sheet_format::Decoded;
 
 // What the run of a sheet gives back: the registers, the ring operations of all commands, and how the run ended.
 pub struct Finished {
@@ -32,42 +23,6 @@ pub struct Finished {
     pub ending: Verdict,
 }
 
-// A command whose operands are in range, in a sheet of rank m with the word q. The answer is its count.
-fn obey(x: &mut [u64], m: usize, q: u64, command: Command) -> u64
-    requires { ⌜ (length (now x) ≡ 2880) × (inRange m command ≡ true) ⌝ }
-    ensures { λ r. ⌜ (now (x .exit) ≡ obey m q command (now (x .entry))) × (r ≡ cost m command) ⌝ }
-{
-    let size = sheet::size(m);
-    match command {
-        Command::End => 0,
-        Command::Begin(_, _) => registers::begin(x, m, size),
-        Command::Unit(r) => registers::make_unit(x, m, size, r),
-        Command::Set(r, i, v) => registers::set_coefficient(x, m, size, r, i, v),
-        Command::Letter(r, i) => registers::letter(x, m, size, q, r, i),
-        Command::Product(d, a, b) => registers::product(x, m, size, q, d, a, b),
-        Command::Sum(d, a, b) => registers::sum(x, m, size, d, a, b),
-        Command::Scale(r, v) => registers::multiple(x, m, size, r, v),
-        Command::Show(_) => 0,
-        Command::Pair(_, _) => 0,
-        Command::Equal(_, _) => 0,
-    }
-}
-
-// One command, in a sheet of rank m with the word q, on registers of 4 x 720 words, register r from 720 r on. A show changes
-// nothing.
-// Example: of rank 1, the unit into register 0 makes the first two words 1 0.
-pub fn step(m: usize, q: u64, command: Command, x: &mut [u64]) -> Answer
-    ensures { λ r. ⌜ stepCall m q command (now (x .entry)) ≡ record { answer = r; lent = now (x .exit) } ⌝ }
-{
-    if x.len() != 2880 {
-        return Answer::NotObeyed;
-    }
-    if !sheet::in_range(m, command) {
-        return Answer::NotObeyed;
-    }
-    Answer::Obeyed(obey(x, m, q, command))
-}
-
 // The commands of a sheet that passes its check, on registers of 4 x 720 words. The answer is their count.
 fn obey_all(x: &mut [u64], sheet: &[u8]) -> u64
     requires { ⌜ (length (now x) ≡ 2880) × (checkSheet (now sheet) ≡ Accepted) ⌝ }
@@ -75,27 +30,50 @@ fn obey_all(x: &mut [u64], sheet: &[u8]) -> u64
         (record { words = now (x .entry); count = 0 })
         ≡ record { words = now (x .exit); count = n } ⌝ }
 {
-    let m = sheet::rank(sheet);
-    let q = sheet::parameter(sheet);
+    let m = sheet_format::rank(sheet);
+    let q = sheet_format::parameter(sheet);
     let mut at = 0;
     let mut count = 0;
     while at < sheet.len() {
-        let found = sheet::read(sheet, at);
+        let found = sheet_format::read(sheet, at);
         let Decoded::Found(command, after) = found else {
             return count;
         };
-        count += obey(x, m, q, command);
+        let obeyed = machine::step(m, q, command, x);
+        let Answer::Obeyed(n) = obeyed else {
+            return count;
+        };
+        count += n;
         at = after;
     }
     count
 }
 
+// The run of a sheet on lent registers of 4 x 720 words, register r from 720 r on, whatever they held: the element of rank m
+// at the front of each, and zeros past it; the count of all commands.
+// Refused: 9 to 14 as the check of a sheet; 8 registers of another size.
+// Example: document 01's sheet makes 3 2 and zeros of register 0, and counts 6.
+pub fn run_into(sheet: &[u8], x: &mut [u64]) -> refusals::Answer
+    ensures { λ a. ⌜ runCall (now (sheet .entry)) (now (x .entry)) ≡ record { answer = a; lent = now (x .exit) } ⌝ }
+{
+    let checked = sheet::check(sheet);
+    if let Verdict::Refused(why) = checked {
+        return refusals::refused(why);
+    }
+    if x.len() != 2880 {
+        return refusals::refused(Refusal::Buffer);
+    }
+    word_lists::clear(x);
+    refusals::accepted(obey_all(x, sheet))
+}
+
+// A register's 720 words.
 fn register(x: &[u64], r: usize) -> [u64; 720]
     requires { ⌜ (length (now x) ≡ 2880) × (r < 4) ⌝ }
     ensures { λ d. ⌜ d ≡ register r (now (x .entry)) ⌝ }
 {
     let mut d = [0u64; 720];
-    registers::load(&mut d, x, r);
+    word_lists::load(&mut d, x, 720 * r);
     d
 }
 
@@ -104,25 +82,15 @@ fn register(x: &[u64], r: usize) -> [u64; 720]
 pub fn run(sheet: &[u8]) -> Finished
     ensures { λ r. ⌜ r ≡ runSheet (now (sheet .entry)) ⌝ }
 {
-    let ending = sheet::check(sheet);
-    if let Verdict::Refused(_) = ending {
-        return Finished {
-            register0: [0u64; 720],
-            register1: [0u64; 720],
-            register2: [0u64; 720],
-            register3: [0u64; 720],
-            count: 0,
-            ending,
-        };
-    }
     let mut x = [0u64; 2880];
-    let count = obey_all(&mut x, sheet);
+    let answer = run_into(sheet, &mut x);
+    let ending = answer.verdict;
     Finished {
         register0: register(&x, 0),
         register1: register(&x, 1),
         register2: register(&x, 2),
         register3: register(&x, 3),
-        count,
+        count: answer.count,
         ending,
     }
 }

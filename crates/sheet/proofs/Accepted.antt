@@ -1,30 +1,27 @@
 -- What acceptance says of a sheet: its size, and at each offset that a run reaches a good command, the end as the last byte. Rests on Cases.
 use mathlib.Core.Path.{_≡_, refl, sym, _∙_}
 use mathlib.Core.Logic.{_⊎_, inl, inr, ⊎-elim}
-use mathlib.Core.Bool.{Bool, true, false}
+use mathlib.Core.Bool.{true, false}
 use mathlib.Core.List.{List}
 use Prim.Native.Nat.{ℕ, _≤_, _<_}
 use native.Mathlib.Omega.{arith}
 use lib.ListN.{length}
-use Rattle.perms.specs.Lists.{same, less}
-use Rattle.perms.proofs.Test.{less-false, SameView, is, isnt, same?, LessView, lt, ge, less?, same-yes, same-no, less-yes, less-no}
-use Rattle.sheet.specs.Check.{unless, isEnd, checkSheet}
+use Rattle.lists.specs.Lists.{same, less}
+use Rattle.lists.proofs.Test.{less-false, SameView, is, isnt, same?, LessView, lt, ge, less?, same-yes, same-no, less-yes, less-no}
+use Rattle.refusals.specs.declared.Refusal.{Refusal}
+use Rattle.refusals.specs.declared.Refusal.the-variants.{Bytes, Ending}
+use Rattle.refusals.specs.declared.Verdict.the-variants.{Accepted, Refused}
+use Rattle.refusals.proofs.Verdicts.{accepts-unless}
+use Rattle.sheet_format.specs.declared.Command.{Command}
+use Rattle.sheet_format.specs.declared.Command.the-variants.{End}
+use Rattle.sheet_format.proofs.Offsets.{found-within}
+use Rattle.sheet.specs.Check.{isEnd, checkSheet}
 use Rattle.sheet.specs.Table.{Good}
-use Rattle.sheet.specs.declared.Command.{Command}
-use Rattle.sheet.specs.declared.Command.the-variants.{End}
-use Rattle.sheet.specs.declared.Refusal.{Refusal}
-use Rattle.sheet.specs.declared.Refusal.the-variants.{Size, Ending}
-use Rattle.sheet.specs.declared.Verdict.the-variants.{Accepted, Refused}
-use Rattle.sheet.proofs.Offsets.{found-within}
 use Rattle.sheet.proofs.CheckFrom.{checkFrom, from-start, stands}
 use Rattle.sheet.proofs.Cases.{Case, nothing, unknown, short, disordered, outside, end, on, case?, order-fails, range-fails, good-on, good-end}
 
 refused : {why : Refusal} → Refused why ≡ Accepted → ⊥
 refused e = let z : _≡_ {A = ℕ} 0 1 = cc in omega arith
-
-accepts-unless : (b : Bool) (why : Refusal) → unless b why ≡ Accepted → b ≡ false
-accepts-unless false why e = refl
-accepts-unless true why e = absurd (refused e)
 
 -- ---- from an offset on
 
@@ -56,7 +53,7 @@ pub sized : (s : List ℕ) → 0 < length s → length s ≤ 4096 → checkSheet
 unfolding checkSheet
 sized s l m = rw (same-no {x = length s} {a = 0} (λ e. omega arith), less-no m) (sym (from-start s))
 
-pub missized : (s : List ℕ) → (length s ≡ 0) ⊎ (4096 < length s) → checkSheet s ≡ Refused Size
+pub missized : (s : List ℕ) → (length s ≡ 0) ⊎ (4096 < length s) → checkSheet s ≡ Refused Bytes
 unfolding checkSheet
 missized s (inl e) = rw (same-yes e) refl
 missized s (inr h) = rw (same-no {x = length s} {a = 0} (λ e. omega arith), less-yes h) refl

@@ -7,17 +7,18 @@ use mathlib.Core.Bool.{Bool, true, false}
 use mathlib.Core.List.{List}
 use Prim.Native.Nat.{ℕ}
 use lib.ListN.{length}
-use Rattle.perms.specs.Lists.{same, less}
-use Rattle.sheet.specs.Format.{decode}
-use Rattle.sheet.specs.Check.{unless, rank, isEnd, inOrder, inRange}
+use Rattle.lists.specs.Lists.{same, less}
+use Rattle.refusals.specs.Refusals.{unless}
+use Rattle.refusals.specs.declared.Refusal.the-variants.{Order, Range, Ending}
+use Rattle.refusals.specs.declared.Verdict.the-variants.{Refused}
+use Rattle.sheet_format.specs.Format.{decode, rank}
+use Rattle.sheet_format.specs.declared.Command.{Command}
+use Rattle.sheet_format.specs.declared.Command.the-variants.{End, Begin, Unit, Set, Letter, Product, Sum, Scale, Show, Pair, Equal}
+use Rattle.sheet_format.specs.declared.Decoded.{Decoded}
+use Rattle.sheet_format.specs.declared.Decoded.the-variants.{Found, NoCommand, Short, Nothing}
+use Rattle.sheet.specs.Check.{isEnd, inOrder, inRange}
 use Rattle.sheet.specs.Steps.{judgedCommand}
 use Rattle.sheet.specs.Table.{Good, OutOfOrder, OutOfRange}
-use Rattle.sheet.specs.declared.Command.{Command}
-use Rattle.sheet.specs.declared.Command.the-variants.{End, Begin, Unit, Set, Letter, Product, Sum, Scale, Show, Pair, Equal}
-use Rattle.sheet.specs.declared.Decoded.{Decoded}
-use Rattle.sheet.specs.declared.Decoded.the-variants.{Found, NoCommand, Short, Nothing}
-use Rattle.sheet.specs.declared.Refusal.the-variants.{Order, Range, Ending}
-use Rattle.sheet.specs.declared.Verdict.the-variants.{Refused}
 use Rattle.sheet.proofs.CheckFrom.{checkFrom, stands}
 
 pub order-fails : (s : List ℕ) (at : ℕ) → OutOfOrder s at → checkFrom s at ≡ Refused (Order at)

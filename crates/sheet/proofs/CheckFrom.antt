@@ -1,4 +1,4 @@
--- The check from an offset on, one command after another. Rests on Offsets and Limit.
+-- The check from an offset on, one command after another. Rests on sheet_format's Offsets and on Limit.
 --
 --   checkFrom s at   the first refusal of the sheet s from an offset on
 --   follow s r       the same, once what stands at an offset is judged
@@ -8,18 +8,19 @@ use mathlib.Core.List.{List, []}
 use Prim.Native.Nat.{ℕ, suc, _-_, _≤_, _<_}
 use native.Mathlib.Omega.{arith}
 use lib.ListN.{length}
-use Rattle.perms.specs.Lists.{less}
-use Rattle.sheet.specs.Format.{decode}
-use Rattle.sheet.specs.Check.{_then_, unless, rank, isEnd, inOrder, inRange, Placed, onward, placedFrom, placed, judge, firstRefusal}
+use Rattle.lists.specs.Lists.{less}
+use Rattle.refusals.specs.Refusals.{_then_, unless}
+use Rattle.refusals.specs.declared.Refusal.the-variants.{Order, Range, Ending}
+use Rattle.refusals.specs.declared.Verdict.{Verdict}
+use Rattle.refusals.specs.declared.Verdict.the-variants.{Refused}
+use Rattle.sheet_format.specs.Format.{decode, rank}
+use Rattle.sheet_format.specs.declared.Decoded.{Decoded}
+use Rattle.sheet_format.specs.declared.Decoded.the-variants.{Found, NoCommand, Short, Nothing}
+use Rattle.sheet_format.proofs.Offsets.{found-within, past-end}
+use Rattle.sheet.specs.Check.{isEnd, inOrder, inRange, Placed, onward, placedFrom, placed, judge, firstRefusal}
 use Rattle.sheet.specs.Steps.{judgedCommand, judged}
-use Rattle.sheet.specs.declared.Decoded.{Decoded}
-use Rattle.sheet.specs.declared.Decoded.the-variants.{Found, NoCommand, Short, Nothing}
-use Rattle.sheet.specs.declared.Refusal.the-variants.{Order, Range, Ending}
-use Rattle.sheet.specs.declared.Verdict.{Verdict}
-use Rattle.sheet.specs.declared.Verdict.the-variants.{Refused}
 use Rattle.sheet.specs.declared.checks.Judged.{Judged}
 use Rattle.sheet.specs.declared.checks.Judged.the-variants.{On, Done}
-use Rattle.sheet.proofs.Offsets.{found-within, past-end}
 use Rattle.sheet.proofs.Limit.{placed-enough}
 
 abbrev pub checkFrom : List ℕ → ℕ → Verdict

@@ -1,21 +1,17 @@
--- What it says that a command is in range: the rank is at most 5, and each operand is within its bounds. Rests on perms' Test.
+-- What it says that a command is in range: the rank is at most 5, and each operand is within its bounds. Rests on lists' Test.
 --
 --   Within m c   the operands of c are in range in a sheet of rank m
-use mathlib.Core.Path.{_≡_, refl, subst}
+use mathlib.Core.Path.{_≡_, subst}
 use mathlib.Core.Bool.{true, not, _&&_, _||_, and-eq-true-iff}
 use Prim.Native.Nat.{ℕ, suc, _≤_, _<_}
 use native.Mathlib.Omega.{arith}
 use borrow.Author.Tests.{not-true}
-use Rattle.perms.specs.Lists.{same, less}
-use Rattle.perms.proofs.Test.{less-no, same-true, same-false, less-true, less-false, or-first, or-next}
-use Rattle.algebra.specs.Numbers.{factorial}
-use Rattle.sheet.specs.Check.{size, isRegister, operandsInRange, inRange}
-use Rattle.sheet.specs.declared.Command.{Command}
-use Rattle.sheet.specs.declared.Command.the-variants as K
-
-pub sized : (m : ℕ) → m ≤ 5 → size m ≡ factorial (suc m)
-unfolding size
-sized m h = rw (less-no h) refl
+use Rattle.lists.specs.Lists.{same, less}
+use Rattle.lists.specs.Numbers.{factorial}
+use Rattle.lists.proofs.Test.{same-true, same-false, less-true, less-false, or-first, or-next}
+use Rattle.sheet_format.specs.declared.Command.{Command}
+use Rattle.sheet_format.specs.declared.Command.the-variants as K
+use Rattle.sheet.specs.Check.{isRegister, operandsInRange, inRange}
 
 abbrev pub Within : ℕ → Command → Type 0
 Within m K.End = Unit {0}

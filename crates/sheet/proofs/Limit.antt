@@ -1,16 +1,16 @@
--- The number that bounds the list of what stands in a sheet is no limit, once it exceeds the bytes that are left. Rests on Offsets.
+-- The number that bounds the list of what stands in a sheet is no limit, once it exceeds the bytes that are left. Rests on sheet_format's Offsets.
 use mathlib.Core.Path.{_≡_, refl, ap}
 use mathlib.Core.Bool.{cond}
 use mathlib.Core.List.{List, [], _∷_}
 use Prim.Native.Nat.{ℕ, zero, suc, _-_, _<_}
 use native.Mathlib.Omega.{arith}
 use lib.ListN.{length}
-use Rattle.sheet.specs.Format.{decode}
+use Rattle.sheet_format.specs.Format.{decode}
+use Rattle.sheet_format.specs.declared.Command.{Command}
+use Rattle.sheet_format.specs.declared.Decoded.{Decoded}
+use Rattle.sheet_format.specs.declared.Decoded.the-variants.{Found, NoCommand, Short, Nothing}
+use Rattle.sheet_format.proofs.Offsets.{found-within}
 use Rattle.sheet.specs.Check.{isEnd, Placed, onward, placedFrom}
-use Rattle.sheet.specs.declared.Command.{Command}
-use Rattle.sheet.specs.declared.Decoded.{Decoded}
-use Rattle.sheet.specs.declared.Decoded.the-variants.{Found, NoCommand, Short, Nothing}
-use Rattle.sheet.proofs.Offsets.{found-within}
 
 onward-same : (d : Decoded) (f g : ℕ → List Placed)
     → ((c : Command) (after : ℕ) → d ≡ Found c after → f after ≡ g after) → onward d f ≡ onward d g

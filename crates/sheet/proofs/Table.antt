@@ -1,4 +1,4 @@
--- A sheet is refused exactly where document 01's table says so. Rests on Cases and Accepted.
+-- A sheet is refused exactly where document 01's table says so, with a place of at most 4,096. Rests on Cases and Accepted.
 use mathlib.Core.Path.{_≡_, refl, ap, subst, _∙_}
 use mathlib.Core.Logic.{inl, inr, ⊎-elim}
 use mathlib.Core.Bool.{false}
@@ -7,16 +7,19 @@ use Prim.Native.Nat.{ℕ, zero, suc, _-_, _≤_, _<_}
 use native.Mathlib.Nat.{le-refl}
 use native.Mathlib.Omega.{arith}
 use lib.ListN.{length}
-use Rattle.perms.proofs.Test.{LessView, lt, ge, less?, less-yes, less-no}
+use Rattle.lists.proofs.Test.{LessView, lt, ge, less?, less-yes, less-no}
+use Rattle.refusals.specs.Refusals.{refusalPlace}
+use Rattle.refusals.specs.declared.Refusal.{Refusal}
+use Rattle.refusals.specs.declared.Refusal.the-variants.{Rank, Size, Scratch, Word, Letter, Length, Image, Entry, Buffer, Bytes, Unknown, CutOff, Order, Range, Ending}
+use Rattle.refusals.specs.declared.Verdict.{Verdict}
+use Rattle.refusals.specs.declared.Verdict.the-variants.{Accepted, Refused}
+use Rattle.refusals.proofs.Verdicts.{Near}
+use Rattle.refusals.proofs.Ended.{refuses-verdict}
+use Rattle.sheet_format.specs.declared.Command.{Command}
+use Rattle.sheet_format.specs.declared.Command.the-variants.{End}
+use Rattle.sheet_format.proofs.Offsets.{found-within, past-end, nothing-past}
 use Rattle.sheet.specs.Check.{isEnd, checkSheet}
 use Rattle.sheet.specs.Table.{Good, Link, Leads, Reached, Ended, Says, Passes, Exactly}
-use Rattle.sheet.specs.declared.Command.{Command}
-use Rattle.sheet.specs.declared.Command.the-variants.{End}
-use Rattle.sheet.specs.declared.Refusal.{Refusal}
-use Rattle.sheet.specs.declared.Refusal.the-variants.{Size, Unknown, CutOff, Order, Range, Ending}
-use Rattle.sheet.specs.declared.Verdict.{Verdict}
-use Rattle.sheet.specs.declared.Verdict.the-variants.{Accepted, Refused}
-use Rattle.sheet.proofs.Offsets.{found-within, past-end, nothing-past}
 use Rattle.sheet.proofs.CheckFrom.{checkFrom, stands}
 use Rattle.sheet.proofs.Cases.{Case, nothing, unknown, short, disordered, outside, end, on, case?, order-fails, range-fails, good-on, good-end}
 use Rattle.sheet.proofs.Accepted.{sized, missized, size?}
@@ -25,7 +28,11 @@ use Rattle.sheet.proofs.Accepted.{sized, missized, size?}
 
 abbrev Holds : List ℕ → Verdict → Type 0
 Holds s Accepted = Passes s
-Holds s (Refused why) = Says s why
+Holds s (Refused why) = Says s why × (refusalPlace why ≤ 4096)
+
+near : (s : List ℕ) (v : Verdict) → Holds s v → Near v
+near s Accepted h = omega arith
+near s (Refused why) h = h .1
 
 module _ {s : List ℕ} {at : ℕ} {c : Command} {after : ℕ} (g : Good s at c after) (e : isEnd c ≡ false) where
   link : Link
@@ -43,23 +50,26 @@ found-from : (k : ℕ) (s : List ℕ) (at : ℕ) → length s - at < k → at �
 found-from zero s at h m r = absurd (omega arith)
 found-from (suc k) s at h m r = go (case? s at) (found-from k s)
   where
+    place : at ≤ 4096
+    place = omega (arith, r .most)
+
     ended : (after : ℕ) → Good s at End after → LessView after (length s) → Holds s (checkFrom s at)
-    ended after g (lt l e) = rw (good-end s at g, e) (inr (record { at = at; reached = r; good = g }, l))
+    ended after g (lt l e) = rw (good-end s at g, e) (inr (record { at = at; reached = r; good = g }, l), omega (arith, r .most))
     ended after g (ge l e) = let w = found-within s at (g .stands) in
         rw (good-end s at g, e) (subst (Ended s) (omega arith) (record { at = at; reached = r; good = g }))
 
     go : Case s at → ((after : ℕ) → length s - after < k → after ≤ length s → Reached s after → Holds s (checkFrom s after)) → Holds s (checkFrom s at)
-    go (nothing d) ih = let past = nothing-past s at d in rw (stands s at d) (inl (r, omega arith))
-    go (unknown d) ih = rw (stands s at d) (r, d)
-    go (short d) ih = rw (stands s at d) (r, d)
-    go (disordered x) ih = rw (order-fails s at x) (r, x)
-    go (outside x) ih = rw (range-fails s at x) (r, x)
+    go (nothing d) ih = let past = nothing-past s at d in rw (stands s at d) (inl (r, omega arith), place)
+    go (unknown d) ih = rw (stands s at d) ((r, d), place)
+    go (short d) ih = rw (stands s at d) ((r, d), place)
+    go (disordered x) ih = rw (order-fails s at x) ((r, x), place)
+    go (outside x) ih = rw (range-fails s at x) ((r, x), place)
     go (end after g) ih = ended after g (less? after (length s))
     go (on c after g e) ih = let w = found-within s at (g .stands) in
         rw (good-on s at g e) (ih after (omega arith) (w .1) (reached-on g e r))
 
 found : (s : List ℕ) → Holds s (checkSheet s)
-found s = ⊎-elim (λ h. rw (missized s h) h)
+found s = ⊎-elim (λ h. rw (missized s h) (h, omega arith))
     (λ h. let start : Reached s 0 = record { least = h .0; most = h .1; links = []; leads = refl } in
     rw (sized s (h .0) (h .1)) (found-from (suc (length s)) s 0 (omega arith) (omega arith) start))
     (size? s)
@@ -74,7 +84,16 @@ reached : {s : List ℕ} {at : ℕ} → Reached s at → checkSheet s ≡ checkF
 reached {s} {at} r = sized s (r .least) (r .most) ∙ led s 0 at (r .links) (r .leads)
 
 says : (s : List ℕ) (why : Refusal) → Says s why → checkSheet s ≡ Refused why
-says s Size h = missized s h
+says s Rank h = absurd h
+says s Size h = absurd h
+says s Scratch h = absurd h
+says s Word h = absurd h
+says s (Letter i) h = absurd h
+says s Length h = absurd h
+says s (Image i) h = absurd h
+says s (Entry i) h = absurd h
+says s Buffer h = absurd h
+says s Bytes h = missized s h
 says s (Unknown at) h = reached (h .0) ∙ stands s at (h .1)
 says s (CutOff at) h = reached (h .0) ∙ stands s at (h .1)
 says s (Order at) h = reached (h .0) ∙ order-fails s at (h .1)
@@ -87,8 +106,9 @@ passes s e = reached (e .reached) ∙ good-end s (e .at) (e .good) ∙ rw (less-
 
 pub exactly : (s : List ℕ) → Exactly s
 exactly s = record {
-  refused = λ why e. subst (Holds s) e (found s);
+  refused = λ why e. subst (Holds s) e (found s) .0;
   says = says s;
   accepted = λ e. subst (Holds s) e (found s);
   passes = passes s;
+  report = refuses-verdict (checkSheet s) (near s (checkSheet s) (found s));
 }

@@ -1,11 +1,11 @@
--- Tests in a row, and the code's comparisons as the specification writes them. Rests on perms' Test.
+-- Tests in a row, and the code's comparisons as the specification writes them. Rests on lists' Test.
 use mathlib.Core.Path.{_≡_, refl, sym, ap, _∙_}
 use mathlib.Core.Bool.{Bool, true, false, not, _&&_, _||_}
 use Prim.Native.Nat.{ℕ, suc}
 use native.Mathlib.Omega.{arith}
 use lib.Dec.{eqb, leb, leb·suc-suc}
-use Rattle.perms.specs.Lists.{same, less}
-use Rattle.perms.proofs.Test.{LessView, lt, ge, less?, less-yes, less-no}
+use Rattle.lists.specs.Lists.{same, less}
+use Rattle.lists.proofs.Test.{LessView, lt, ge, less?, less-yes, less-no}
 
 pub and-on : {a : Bool} (b : Bool) → a ≡ true → b ≡ (a && b)
 and-on b e = rw e refl

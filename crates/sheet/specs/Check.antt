@@ -1,11 +1,6 @@
 -- The check of a whole sheet, with the refusals 9 to 14 (document 01, "Where each thing is checked").
 --
---   refusalNumber, refusalPlace   document 01's number and place of a refusal
---   v then w                      the first refusal of two verdicts
---   unless bad why                refused if the test holds
---   rank s, parameter s           the operands m and q of a sheet that begins with 0x10
 --   codeOf c, isEnd c             the code of a command; the test for the end command
---   size m                        M for the ranks of a sheet, and 0 above them
 --   inOrder at c                  the first command is begin, and no later one
 --   isRegister r                  r is one of the four registers
 --   operandsInRange m c           the operands are in range in a sheet of rank m; that of begin is m itself
@@ -21,49 +16,19 @@ use mathlib.Core.Bool.{Bool, true, cond, not, _&&_, _||_}
 use mathlib.Core.List.{List, [], _∷_}
 use Prim.Native.Nat.{ℕ, zero, suc}
 use lib.ListN.{length}
-use Rattle.perms.specs.Lists.{same, less}
-use Rattle.algebra.specs.Numbers.{factorial}
-use Rattle.sheet.specs.Format.{byte, number, decode}
-use Rattle.sheet.specs.declared.Command.{Command}
-use Rattle.sheet.specs.declared.Command.the-variants.{End, Begin, Unit, Set, Letter, Product, Sum, Scale, Show, Pair, Equal}
-use Rattle.sheet.specs.declared.Decoded.{Decoded}
-use Rattle.sheet.specs.declared.Decoded.the-variants.{Found, NoCommand, Short, Nothing}
-use Rattle.sheet.specs.declared.Refusal.{Refusal}
-use Rattle.sheet.specs.declared.Refusal.the-variants.{Size, Unknown, CutOff, Order, Range, Ending}
-use Rattle.sheet.specs.declared.Verdict.{Verdict}
-use Rattle.sheet.specs.declared.Verdict.the-variants.{Accepted, Refused}
-
-abbrev pub refusalNumber : Refusal → ℕ
-refusalNumber Size = 9
-refusalNumber (Unknown at) = 10
-refusalNumber (CutOff at) = 11
-refusalNumber (Order at) = 12
-refusalNumber (Range at) = 13
-refusalNumber (Ending at) = 14
-
-abbrev pub refusalPlace : Refusal → ℕ
-refusalPlace Size = 0
-refusalPlace (Unknown at) = at
-refusalPlace (CutOff at) = at
-refusalPlace (Order at) = at
-refusalPlace (Range at) = at
-refusalPlace (Ending at) = at
-
-infixr 30 _then_
-abbrev pub _then_ : Verdict → Verdict → Verdict
-Accepted then next = next
-Refused why then next = Refused why
-
-abbrev pub unless : Bool → Refusal → Verdict
-unless bad why = cond bad (Refused why) Accepted
+use Rattle.lists.specs.Lists.{same, less}
+use Rattle.lists.specs.Numbers.{factorial}
+use Rattle.refusals.specs.Refusals.{_then_, unless}
+use Rattle.refusals.specs.declared.Refusal.the-variants.{Bytes, Unknown, CutOff, Order, Range, Ending}
+use Rattle.refusals.specs.declared.Verdict.{Verdict}
+use Rattle.refusals.specs.declared.Verdict.the-variants.{Accepted, Refused}
+use Rattle.sheet_format.specs.Format.{decode, rank}
+use Rattle.sheet_format.specs.declared.Command.{Command}
+use Rattle.sheet_format.specs.declared.Command.the-variants.{End, Begin, Unit, Set, Letter, Product, Sum, Scale, Show, Pair, Equal}
+use Rattle.sheet_format.specs.declared.Decoded.{Decoded}
+use Rattle.sheet_format.specs.declared.Decoded.the-variants.{Found, NoCommand, Short, Nothing}
 
 -- ---- a command
-
-unfoldable pub rank : List ℕ → ℕ
-rank s = byte s 1
-
-unfoldable pub parameter : List ℕ → ℕ
-parameter s = number s 2 8
 
 abbrev pub codeOf : Command → ℕ
 codeOf End = 0x00
@@ -80,9 +45,6 @@ codeOf (Equal a b) = 0x42
 
 unfoldable pub isEnd : Command → Bool
 isEnd c = same (codeOf c) 0x00
-
-unfoldable pub size : ℕ → ℕ
-size m = cond (less 5 m) 0 (factorial (suc m))
 
 unfoldable pub inOrder : ℕ → Command → Bool
 inOrder at c = let begins = same (codeOf c) 0x10 in cond (same at 0) begins (not begins)
@@ -139,4 +101,4 @@ firstRefusal s [] = Accepted
 firstRefusal s (p ∷ ps) = judge s (p .offset) (p .found) then firstRefusal s ps
 
 unfoldable pub checkSheet : List ℕ → Verdict
-checkSheet s = unless (same (length s) 0 || less 4096 (length s)) Size then firstRefusal s (placed s)
+checkSheet s = unless (same (length s) 0 || less 4096 (length s)) Bytes then firstRefusal s (placed s)

@@ -1,4 +1,3 @@
-pub mod Format
 pub mod Check
 pub mod Steps
 pub mod Table

@@ -4,13 +4,14 @@
 --   judged n m at found            the same from what stands there
 use mathlib.Core.Bool.{cond}
 use Prim.Native.Nat.{ℕ}
-use Rattle.perms.specs.Lists.{less}
-use Rattle.sheet.specs.Check.{unless, isEnd, inOrder, inRange}
-use Rattle.sheet.specs.declared.Command.{Command}
-use Rattle.sheet.specs.declared.Decoded.{Decoded}
-use Rattle.sheet.specs.declared.Decoded.the-variants.{Found, NoCommand, Short, Nothing}
-use Rattle.sheet.specs.declared.Refusal.the-variants.{Unknown, CutOff, Order, Range, Ending}
-use Rattle.sheet.specs.declared.Verdict.the-variants.{Refused}
+use Rattle.lists.specs.Lists.{less}
+use Rattle.refusals.specs.Refusals.{unless}
+use Rattle.refusals.specs.declared.Refusal.the-variants.{Unknown, CutOff, Order, Range, Ending}
+use Rattle.refusals.specs.declared.Verdict.the-variants.{Refused}
+use Rattle.sheet_format.specs.declared.Command.{Command}
+use Rattle.sheet_format.specs.declared.Decoded.{Decoded}
+use Rattle.sheet_format.specs.declared.Decoded.the-variants.{Found, NoCommand, Short, Nothing}
+use Rattle.sheet.specs.Check.{isEnd, inOrder, inRange}
 use Rattle.sheet.specs.declared.checks.Judged.{Judged}
 use Rattle.sheet.specs.declared.checks.Judged.the-variants.{On, Done}
 

@@ -9,21 +9,23 @@
 --   Ended s after             a good end command is reached, and the offset after it
 --   Says s why                the table's row for a refusal
 --   Passes s                  an end command is reached, and nothing stands after it
---   Exactly s                 a sheet is refused exactly where the table says so, and accepted exactly where it passes
+--   Exactly s                 a sheet is refused exactly where the table says so, and accepted exactly where it passes; a refusal counts 0, and its
+--                             place is at most 4,096
 use mathlib.Core.Path.{_≡_}
 use mathlib.Core.Bool.{true, false}
 use mathlib.Core.List.{List, [], _∷_}
 use mathlib.Core.Logic.{_⊎_}
 use Prim.Native.Nat.{ℕ, _≤_, _<_}
 use lib.ListN.{length}
-use Rattle.sheet.specs.Format.{decode}
-use Rattle.sheet.specs.Check.{rank, isEnd, inOrder, inRange, checkSheet}
-use Rattle.sheet.specs.declared.Command.{Command}
-use Rattle.sheet.specs.declared.Command.the-variants.{End}
-use Rattle.sheet.specs.declared.Decoded.the-variants.{Found, NoCommand, Short}
-use Rattle.sheet.specs.declared.Refusal.{Refusal}
-use Rattle.sheet.specs.declared.Refusal.the-variants.{Size, Unknown, CutOff, Order, Range, Ending}
-use Rattle.sheet.specs.declared.Verdict.the-variants.{Accepted, Refused}
+use Rattle.refusals.specs.Refusals.{verdictReport, Refuses}
+use Rattle.refusals.specs.declared.Refusal.{Refusal}
+use Rattle.refusals.specs.declared.Refusal.the-variants.{Rank, Size, Scratch, Word, Letter, Length, Image, Entry, Buffer, Bytes, Unknown, CutOff, Order, Range, Ending}
+use Rattle.refusals.specs.declared.Verdict.the-variants.{Accepted, Refused}
+use Rattle.sheet_format.specs.Format.{decode, rank}
+use Rattle.sheet_format.specs.declared.Command.{Command}
+use Rattle.sheet_format.specs.declared.Command.the-variants.{End}
+use Rattle.sheet_format.specs.declared.Decoded.the-variants.{Found, NoCommand, Short}
+use Rattle.sheet.specs.Check.{isEnd, inOrder, inRange, checkSheet}
 
 pub record Good (s : List ℕ) (at : ℕ) (c : Command) (after : ℕ) : Type 0 where
   pub stands : decode s at ≡ Found c after
@@ -61,12 +63,22 @@ pub record Ended (s : List ℕ) (after : ℕ) : Type 0 where
   pub good : Good s at End after
 
 abbrev pub Says : List ℕ → Refusal → Type 0
-Says s Size = (length s ≡ 0) ⊎ (4096 < length s)
+Says s Bytes = (length s ≡ 0) ⊎ (4096 < length s)
 Says s (Unknown at) = Reached s at × (decode s at ≡ NoCommand)
 Says s (CutOff at) = Reached s at × (decode s at ≡ Short)
 Says s (Order at) = Reached s at × OutOfOrder s at
 Says s (Range at) = Reached s at × OutOfRange s at
 Says s (Ending at) = (Reached s at × (at ≡ length s)) ⊎ (Ended s at × (at < length s))
+-- no sheet is refused for what another table row judges
+Says s Rank = ⊥
+Says s Size = ⊥
+Says s Scratch = ⊥
+Says s Word = ⊥
+Says s (Letter i) = ⊥
+Says s Length = ⊥
+Says s (Image i) = ⊥
+Says s (Entry i) = ⊥
+Says s Buffer = ⊥
 
 abbrev pub Passes : List ℕ → Type 0
 Passes s = Ended s (length s)
@@ -76,3 +88,4 @@ pub record Exactly (s : List ℕ) : Type 0 where
   pub says : (why : Refusal) → Says s why → checkSheet s ≡ Refused why
   pub accepted : checkSheet s ≡ Accepted → Passes s
   pub passes : Passes s → checkSheet s ≡ Accepted
+  pub report : Refuses (verdictReport (checkSheet s))

@@ -3,13 +3,14 @@
 ghost use mathlib.Core.Path.{_≡_};
 ghost use mathlib.Core.Bool.{not, _&&_, _||_};
 ghost use Prim.Native.Nat.{_≤_};
-ghost use Rattle.perms.specs.Lists.{same, less};
-ghost use Rattle.sheet.specs.Check.{codeOf, isEnd, inOrder, isRegister, operandsInRange, rank, placed, firstRefusal};
+ghost use Rattle.lists.specs.Lists.{same, less};
+ghost use Rattle.sheet_format.specs.Format.{rank};
+ghost use Rattle.sheet.specs.Check.{codeOf, isEnd, inOrder, isRegister, operandsInRange, placed, firstRefusal};
 ghost use Rattle.sheet.specs.Steps.{judgedCommand, judged};
-use crate::Command;
-use crate::Decoded;
-use crate::Refusal;
-use crate::Verdict;
+use refusals::Refusal;
+use refusals::Verdict;
+use sheet_format::Command;
+use sheet_format::Decoded;
 
 fn three_registers(d: usize, a: usize, b: usize) -> bool
     ensures { λ r. ⌜ r ≡ (isRegister d && isRegister a && isRegister b) ⌝ }
@@ -38,7 +39,7 @@ pub(crate) fn operands_in_range(m: usize, command: Command) -> bool
         Command::End => true,
         Command::Begin(rank, _) => rank == m,
         Command::Unit(r) => r < 4,
-        Command::Set(r, i, _) => r < 4 && i < crate::size(m),
+        Command::Set(r, i, _) => r < 4 && i < ranks::size(m),
         Command::Letter(r, i) => r < 4 && is_letter(m, i),
         Command::Product(d, a, b) => three_registers(d, a, b),
         Command::Sum(d, a, b) => three_registers(d, a, b),
@@ -129,7 +130,7 @@ pub(crate) fn commands(sheet: &[u8], m: usize) -> Verdict
     let n = sheet.len();
     let mut at = 0;
     while at < n {
-        let judged = judge(n, m, at, crate::read(sheet, at));
+        let judged = judge(n, m, at, sheet_format::read(sheet, at));
         match judged {
             Judged::On(after) => {
                 at = after;

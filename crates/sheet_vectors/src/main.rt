@@ -9,7 +9,7 @@
 // The program ends where the input does. It also ends, with no line, at a sheet that is cut off, and at one of more than 4,097
 // bytes.
 
-use sheet::Verdict;
+use refusals::Verdict;
 use vector_io::Read;
 use vector_io::print_field;
 
@@ -20,8 +20,8 @@ fn print_ending(ending: Verdict) {
         }
         Verdict::Refused(why) => {
             io::write_all(1, b"E");
-            print_field(sheet::number_of(why) as u64);
-            print_field(sheet::place_of(why) as u64);
+            print_field(refusals::number_of(why) as u64);
+            print_field(refusals::place_of(why) as u64);
         }
     }
 }

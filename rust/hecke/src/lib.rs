@@ -1,6 +1,6 @@
 //! The library's calls over safe slices: permutations, towers, elements of the Iwahori-Hecke algebra of type A, and run sheets.
 //!
-//! A call answers `Err` with document 01's refusal, and then leaves every slice as it was, or `Ok` with its count or nothing.
+//! A call answers `Err` with document 01's refusal, and then leaves every slice as it was, or `Ok` with what it counts or finds.
 //! `include/hecke.h` says what a permutation, a tower and an element are as bytes and words, and what each call refuses.
 
 pub mod raw;
@@ -19,19 +19,18 @@ pub struct Descents {
     pub count: u64,
 }
 
-/// What a call reports after place 0: its count, and the mask where it has one.
-struct Report {
-    count: u64,
-    mask: u64,
+/// The refusal in the word that a call returns, if there is one.
+fn verdict(word: u64) -> Result<(), Refusal> {
+    match word {
+        0 => Ok(()),
+        _ => Err(Refusal { number: (word & 255) as u8, place: word >> 8 }),
+    }
 }
 
-/// Makes a call with a report of three words, and reads the report.
-fn reported(call: impl FnOnce(*mut u64, usize) -> u8) -> Result<Report, Refusal> {
-    let mut report = [0; 3];
-    match call(report.as_mut_ptr(), report.len()) {
-        0 => Ok(Report { count: report[1], mask: report[2] }),
-        number => Err(Refusal { number, place: report[0] }),
-    }
+/// Makes a call with an answer slice of N words, and gives these words.
+fn answered<const N: usize>(call: impl FnOnce(*mut u64, usize) -> u64) -> Result<[u64; N], Refusal> {
+    let mut answer = [0; N];
+    verdict(call(answer.as_mut_ptr(), N)).map(|()| answer)
 }
 
 /// Writes the tower of an image list.
@@ -45,10 +44,7 @@ fn reported(call: impl FnOnce(*mut u64, usize) -> u8) -> Result<Report, Refusal>
 /// assert_eq!(twice, Err(hecke::Refusal { number: 6, place: 2 }));
 /// ```
 pub fn tower_of_images(images: &[u8], tower: &mut [u8]) -> Result<(), Refusal> {
-    reported(|report, room| unsafe {
-        raw::hecke_tower_of_images(images.as_ptr(), images.len(), tower.as_mut_ptr(), tower.len(), report, room)
-    })
-    .map(|_| ())
+    verdict(unsafe { raw::hecke_tower_of_images(images.as_ptr(), images.len(), tower.as_mut_ptr(), tower.len()) })
 }
 
 /// Writes the image list of a tower.
@@ -59,10 +55,7 @@ pub fn tower_of_images(images: &[u8], tower: &mut [u8]) -> Result<(), Refusal> {
 /// assert_eq!(images, [2, 3, 1]);
 /// ```
 pub fn images_of_tower(tower: &[u8], images: &mut [u8]) -> Result<(), Refusal> {
-    reported(|report, room| unsafe {
-        raw::hecke_images_of_tower(tower.as_ptr(), tower.len(), images.as_mut_ptr(), images.len(), report, room)
-    })
-    .map(|_| ())
+    verdict(unsafe { raw::hecke_images_of_tower(tower.as_ptr(), tower.len(), images.as_mut_ptr(), images.len()) })
 }
 
 /// Writes the tower of the inverse of a tower's permutation.
@@ -73,10 +66,7 @@ pub fn images_of_tower(tower: &[u8], images: &mut [u8]) -> Result<(), Refusal> {
 /// assert_eq!(inverse, [1, 1]);
 /// ```
 pub fn tower_inverse(tower: &[u8], result: &mut [u8]) -> Result<(), Refusal> {
-    reported(|report, room| unsafe {
-        raw::hecke_tower_inverse(tower.as_ptr(), tower.len(), result.as_mut_ptr(), result.len(), report, room)
-    })
-    .map(|_| ())
+    verdict(unsafe { raw::hecke_tower_inverse(tower.as_ptr(), tower.len(), result.as_mut_ptr(), result.len()) })
 }
 
 /// Writes the tower of the product of two towers' permutations, the left of which acts first.
@@ -87,19 +77,9 @@ pub fn tower_inverse(tower: &[u8], result: &mut [u8]) -> Result<(), Refusal> {
 /// assert_eq!(product, [1, 2]);
 /// ```
 pub fn tower_product(left: &[u8], right: &[u8], result: &mut [u8]) -> Result<(), Refusal> {
-    reported(|report, room| unsafe {
-        raw::hecke_tower_product(
-            left.as_ptr(),
-            left.len(),
-            right.as_ptr(),
-            right.len(),
-            result.as_mut_ptr(),
-            result.len(),
-            report,
-            room,
-        )
+    verdict(unsafe {
+        raw::hecke_tower_product(left.as_ptr(), left.len(), right.as_ptr(), right.len(), result.as_mut_ptr(), result.len())
     })
-    .map(|_| ())
 }
 
 /// The length of a tower's permutation.
@@ -108,8 +88,8 @@ pub fn tower_product(left: &[u8], right: &[u8], result: &mut [u8]) -> Result<(),
 /// assert_eq!(hecke::tower_length(&[0, 2]), Ok(2));
 /// ```
 pub fn tower_length(tower: &[u8]) -> Result<u64, Refusal> {
-    reported(|report, room| unsafe { raw::hecke_tower_length(tower.as_ptr(), tower.len(), report, room) })
-        .map(|report| report.count)
+    answered(|answer, room| unsafe { raw::hecke_tower_length(tower.as_ptr(), tower.len(), answer, room) })
+        .map(|[length]| length)
 }
 
 /// Writes the standard shortest word of a tower's permutation at the front of `word`, and answers the number of its letters.
@@ -120,10 +100,10 @@ pub fn tower_length(tower: &[u8]) -> Result<u64, Refusal> {
 /// assert_eq!(word[..2], [2, 1]);
 /// ```
 pub fn tower_word(tower: &[u8], word: &mut [u8]) -> Result<u64, Refusal> {
-    reported(|report, room| unsafe {
-        raw::hecke_tower_word(tower.as_ptr(), tower.len(), word.as_mut_ptr(), word.len(), report, room)
+    answered(|answer, room| unsafe {
+        raw::hecke_tower_word(tower.as_ptr(), tower.len(), word.as_mut_ptr(), word.len(), answer, room)
     })
-    .map(|report| report.count)
+    .map(|[letters]| letters)
 }
 
 /// The descent set of a tower's permutation.
@@ -132,8 +112,28 @@ pub fn tower_word(tower: &[u8], word: &mut [u8]) -> Result<u64, Refusal> {
 /// assert_eq!(hecke::tower_descents(&[0, 2]), Ok(hecke::Descents { mask: 2, count: 1 }));
 /// ```
 pub fn tower_descents(tower: &[u8]) -> Result<Descents, Refusal> {
-    reported(|report, room| unsafe { raw::hecke_tower_descents(tower.as_ptr(), tower.len(), report, room) })
-        .map(|report| Descents { mask: report.mask, count: report.count })
+    answered(|answer, room| unsafe { raw::hecke_tower_descents(tower.as_ptr(), tower.len(), answer, room) })
+        .map(|[mask, count]| Descents { mask, count })
+}
+
+/// M = (m + 1)!, the words of an element of rank m, for ranks 0 to 6; 0 for a rank above.
+///
+/// ```
+/// assert_eq!(hecke::size(2), 6);
+/// assert_eq!(hecke::size(7), 0);
+/// ```
+pub fn size(m: usize) -> usize {
+    unsafe { raw::hecke_size(m) }
+}
+
+/// (m + 6) M, the words of scratch that a product of rank m takes, for ranks 0 to 6; 0 for a rank above.
+///
+/// ```
+/// assert_eq!(hecke::scratch_size(2), 48);
+/// assert_eq!(hecke::scratch_size(7), 0);
+/// ```
+pub fn scratch_size(m: usize) -> usize {
+    unsafe { raw::hecke_scratch_size(m) }
 }
 
 /// Writes the sum of two elements of rank m, and answers the count.
@@ -144,7 +144,7 @@ pub fn tower_descents(tower: &[u8]) -> Result<Descents, Refusal> {
 /// assert_eq!(sum, [6, 8]);
 /// ```
 pub fn sum(m: usize, left: &[u64], right: &[u64], result: &mut [u64]) -> Result<u64, Refusal> {
-    reported(|report, room| unsafe {
+    answered(|answer, room| unsafe {
         raw::hecke_sum(
             m,
             left.as_ptr(),
@@ -153,11 +153,11 @@ pub fn sum(m: usize, left: &[u64], right: &[u64], result: &mut [u64]) -> Result<
             right.len(),
             result.as_mut_ptr(),
             result.len(),
-            report,
+            answer,
             room,
         )
     })
-    .map(|report| report.count)
+    .map(|[count]| count)
 }
 
 /// Writes an element of rank m times the word c, and answers the count.
@@ -168,10 +168,10 @@ pub fn sum(m: usize, left: &[u64], right: &[u64], result: &mut [u64]) -> Result<
 /// assert_eq!(result, [6, 9]);
 /// ```
 pub fn scale(m: usize, c: u64, element: &[u64], result: &mut [u64]) -> Result<u64, Refusal> {
-    reported(|report, room| unsafe {
-        raw::hecke_scale(m, c, element.as_ptr(), element.len(), result.as_mut_ptr(), result.len(), report, room)
+    answered(|answer, room| unsafe {
+        raw::hecke_scale(m, c, element.as_ptr(), element.len(), result.as_mut_ptr(), result.len(), answer, room)
     })
-    .map(|report| report.count)
+    .map(|[count]| count)
 }
 
 /// Changes an element of rank m by a word of generators, left to right, and answers the count.
@@ -182,22 +182,23 @@ pub fn scale(m: usize, c: u64, element: &[u64], result: &mut [u64]) -> Result<u6
 /// assert_eq!(element, [3, 2]);
 /// ```
 pub fn act_word(m: usize, q: u64, word: &[u8], element: &mut [u64]) -> Result<u64, Refusal> {
-    reported(|report, room| unsafe {
-        raw::hecke_act_word(m, q, word.as_ptr(), word.len(), element.as_mut_ptr(), element.len(), report, room)
+    answered(|answer, room| unsafe {
+        raw::hecke_act_word(m, q, word.as_ptr(), word.len(), element.as_mut_ptr(), element.len(), answer, room)
     })
-    .map(|report| report.count)
+    .map(|[count]| count)
 }
 
-/// Writes the product of two elements of rank m, and answers the count. The scratch has (m + 6) M words or more; the first
-/// (m + 6) M of them are zero afterwards.
+/// Writes the product of two elements of rank m, and answers the count. The scratch has `scratch_size(m)` words or more; the
+/// first `scratch_size(m)` of them are zero afterwards.
 ///
 /// ```
-/// let (mut product, mut scratch) = ([0; 2], [0; 14]);
+/// let mut product = [0; 2];
+/// let mut scratch = vec![0; hecke::scratch_size(1)];
 /// assert_eq!(hecke::product(1, 3, &[0, 1], &[0, 1], &mut product, &mut scratch), Ok(9));
 /// assert_eq!(product, [3, 2]);
 /// ```
 pub fn product(m: usize, q: u64, left: &[u64], right: &[u64], result: &mut [u64], scratch: &mut [u64]) -> Result<u64, Refusal> {
-    reported(|report, room| unsafe {
+    answered(|answer, room| unsafe {
         raw::hecke_product(
             m,
             q,
@@ -209,11 +210,11 @@ pub fn product(m: usize, q: u64, left: &[u64], right: &[u64], result: &mut [u64]
             result.len(),
             scratch.as_mut_ptr(),
             scratch.len(),
-            report,
+            answer,
             room,
         )
     })
-    .map(|report| report.count)
+    .map(|[count]| count)
 }
 
 /// The check of a whole run sheet.
@@ -224,5 +225,26 @@ pub fn product(m: usize, q: u64, left: &[u64], right: &[u64], result: &mut [u64]
 /// assert_eq!(hecke::sheet_check(&[0]), Err(hecke::Refusal { number: 12, place: 0 }));
 /// ```
 pub fn sheet_check(sheet: &[u8]) -> Result<(), Refusal> {
-    reported(|report, room| unsafe { raw::hecke_sheet_check(sheet.as_ptr(), sheet.len(), report, room) }).map(|_| ())
+    verdict(unsafe { raw::hecke_sheet_check(sheet.as_ptr(), sheet.len()) })
+}
+
+/// Runs a whole run sheet, of rank m, on four registers of 720 words, whatever they held, and answers the count over all
+/// commands. Register r begins at word 720 r; afterwards it has its element in its first M words, and zeros after them. A show
+/// prints nothing.
+///
+/// ```
+/// let sheet = [0x10, 1, 3, 0, 0, 0, 0, 0, 0, 0, 0x20, 0, 0x30, 0, 1, 0x30, 0, 1, 0x40, 0, 0];
+/// let mut registers = vec![7; 2880];
+/// assert_eq!(hecke::run_sheet(&sheet, &mut registers), Ok(6));
+/// assert_eq!(registers[..2], [3, 2]);
+/// assert!(registers[2..].iter().all(|&word| word == 0));
+///
+/// let short = hecke::run_sheet(&sheet, &mut registers[1..]);
+/// assert_eq!(short, Err(hecke::Refusal { number: 8, place: 0 }));
+/// ```
+pub fn run_sheet(sheet: &[u8], registers: &mut [u64]) -> Result<u64, Refusal> {
+    answered(|answer, room| unsafe {
+        raw::hecke_run_sheet(sheet.as_ptr(), sheet.len(), registers.as_mut_ptr(), registers.len(), answer, room)
+    })
+    .map(|[count]| count)
 }

@@ -1,32 +1,11 @@
 //! The functions of `include/hecke.h`, which says what they do and what is the caller's part.
 
 extern "C" {
-    pub fn hecke_tower_of_images(
-        images: *const u8,
-        images_len: usize,
-        tower: *mut u8,
-        tower_len: usize,
-        report: *mut u64,
-        report_len: usize,
-    ) -> u8;
+    pub fn hecke_tower_of_images(images: *const u8, images_len: usize, tower: *mut u8, tower_len: usize) -> u64;
 
-    pub fn hecke_images_of_tower(
-        tower: *const u8,
-        tower_len: usize,
-        images: *mut u8,
-        images_len: usize,
-        report: *mut u64,
-        report_len: usize,
-    ) -> u8;
+    pub fn hecke_images_of_tower(tower: *const u8, tower_len: usize, images: *mut u8, images_len: usize) -> u64;
 
-    pub fn hecke_tower_inverse(
-        tower: *const u8,
-        tower_len: usize,
-        result: *mut u8,
-        result_len: usize,
-        report: *mut u64,
-        report_len: usize,
-    ) -> u8;
+    pub fn hecke_tower_inverse(tower: *const u8, tower_len: usize, result: *mut u8, result_len: usize) -> u64;
 
     pub fn hecke_tower_product(
         left: *const u8,
@@ -35,22 +14,24 @@ extern "C" {
         right_len: usize,
         result: *mut u8,
         result_len: usize,
-        report: *mut u64,
-        report_len: usize,
-    ) -> u8;
+    ) -> u64;
 
-    pub fn hecke_tower_length(tower: *const u8, tower_len: usize, report: *mut u64, report_len: usize) -> u8;
+    pub fn hecke_tower_length(tower: *const u8, tower_len: usize, answer: *mut u64, answer_len: usize) -> u64;
 
     pub fn hecke_tower_word(
         tower: *const u8,
         tower_len: usize,
         word: *mut u8,
         word_len: usize,
-        report: *mut u64,
-        report_len: usize,
-    ) -> u8;
+        answer: *mut u64,
+        answer_len: usize,
+    ) -> u64;
 
-    pub fn hecke_tower_descents(tower: *const u8, tower_len: usize, report: *mut u64, report_len: usize) -> u8;
+    pub fn hecke_tower_descents(tower: *const u8, tower_len: usize, answer: *mut u64, answer_len: usize) -> u64;
+
+    pub fn hecke_size(m: usize) -> usize;
+
+    pub fn hecke_scratch_size(m: usize) -> usize;
 
     pub fn hecke_sum(
         m: usize,
@@ -60,9 +41,9 @@ extern "C" {
         right_len: usize,
         result: *mut u64,
         result_len: usize,
-        report: *mut u64,
-        report_len: usize,
-    ) -> u8;
+        answer: *mut u64,
+        answer_len: usize,
+    ) -> u64;
 
     pub fn hecke_scale(
         m: usize,
@@ -71,9 +52,9 @@ extern "C" {
         element_len: usize,
         result: *mut u64,
         result_len: usize,
-        report: *mut u64,
-        report_len: usize,
-    ) -> u8;
+        answer: *mut u64,
+        answer_len: usize,
+    ) -> u64;
 
     pub fn hecke_act_word(
         m: usize,
@@ -82,9 +63,9 @@ extern "C" {
         word_len: usize,
         element: *mut u64,
         element_len: usize,
-        report: *mut u64,
-        report_len: usize,
-    ) -> u8;
+        answer: *mut u64,
+        answer_len: usize,
+    ) -> u64;
 
     pub fn hecke_product(
         m: usize,
@@ -97,9 +78,18 @@ extern "C" {
         result_len: usize,
         scratch: *mut u64,
         scratch_len: usize,
-        report: *mut u64,
-        report_len: usize,
-    ) -> u8;
+        answer: *mut u64,
+        answer_len: usize,
+    ) -> u64;
 
-    pub fn hecke_sheet_check(sheet: *const u8, sheet_len: usize, report: *mut u64, report_len: usize) -> u8;
+    pub fn hecke_sheet_check(sheet: *const u8, sheet_len: usize) -> u64;
+
+    pub fn hecke_run_sheet(
+        sheet: *const u8,
+        sheet_len: usize,
+        registers: *mut u64,
+        registers_len: usize,
+        answer: *mut u64,
+        answer_len: usize,
+    ) -> u64;
 }

@@ -10,7 +10,7 @@ pub mod sheet;
 
 pub use element::{act_word, product, scale, sum};
 pub use perm::{images_of_tower, tower_descents, tower_inverse, tower_length, tower_of_images, tower_product, tower_word};
-pub use sheet::check as sheet_check;
+pub use sheet::{check as sheet_check, run as run_sheet};
 
 /// A refusal: its number in document 01's table, and its place, 0 where none is named.
 #[derive(Clone, Copy, Debug, PartialEq, Eq)]

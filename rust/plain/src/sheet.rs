@@ -203,6 +203,30 @@ impl Run {
     }
 }
 
+/// The run of a whole sheet by a given method, or its refusal.
+fn run_by(method: Method, sheet: &[u8]) -> Result<Run, Refusal> {
+    match commands(sheet)?[..] {
+        [Command::Begin { m, q }, ref rest @ ..] => {
+            let mut run = Run::begin(method, m, q);
+            rest.iter().for_each(|&command| run.obey(command));
+            Ok(run)
+        }
+        _ => unreachable!("a sheet that is not refused begins with 0x10"),
+    }
+}
+
+/// Runs a sheet on four registers of 720 words, which are zero past M afterwards, and answers the count.
+pub fn run(sheet: &[u8], registers: &mut [u64]) -> Result<u64, Refusal> {
+    check(sheet)?;
+    refuse(registers.len() != 4 * 720, 8, 0)?;
+    let run = run_by(LISTS, sheet)?;
+    registers.fill(0);
+    for (register, words) in registers.chunks_exact_mut(720).zip(&run.registers) {
+        register[..words.len()].copy_from_slice(words);
+    }
+    Ok(run.count)
+}
+
 /// What the program prints for a sheet.
 pub fn printed(sheet: &[u8]) -> Vec<u8> {
     printed_by(LISTS, sheet)
@@ -210,13 +234,8 @@ pub fn printed(sheet: &[u8]) -> Vec<u8> {
 
 /// What the program prints for a sheet, by a given method.
 pub fn printed_by(method: Method, sheet: &[u8]) -> Vec<u8> {
-    let text = match commands(sheet).as_deref() {
-        Ok([Command::Begin { m, q }, rest @ ..]) => {
-            let mut run = Run::begin(method, *m, *q);
-            rest.iter().for_each(|&command| run.obey(command));
-            run.text
-        }
-        Ok(_) => unreachable!("a sheet that is not refused begins with 0x10"),
+    let text = match run_by(method, sheet) {
+        Ok(run) => run.text,
         Err(refusal) => format!("E {} {}\n", refusal.number, refusal.place),
     };
     text.into_bytes()
@@ -232,6 +251,10 @@ mod tests {
         let sheet = [0x10, 1, 3, 0, 0, 0, 0, 0, 0, 0, 0x20, 0, 0x30, 0, 1, 0x30, 0, 1, 0x40, 0, 0];
         assert_eq!(check(&sheet), Ok(()));
         assert_eq!(printed(&sheet), b"H 1 3\nR 0\n0 3\n1 2\nN 6\n");
+        let mut registers = [7; 2880];
+        assert_eq!(run(&sheet, &mut registers), Ok(6));
+        assert_eq!(registers[..2], [3, 2]);
+        assert!(registers[2..].iter().all(|&word| word == 0));
     }
 
     #[test]

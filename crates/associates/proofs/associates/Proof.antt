@@ -1,7 +1,7 @@
 -- The four calls, each by its contract and the size of its scratch; then demand 3. Rests on FourProducts and hecke's WordSlices.
 use mathlib.Core.Path.{_∙_}
 use borrow.Author.Needs.{needs}
-use Rattle.hecke.proofs.WordSlices.{slice-element}
+use Rattle.algebra.proofs.WordSlices.{slice-element}
 use Rattle.associates.proofs.FourProducts.{Called, left-value, left-right}
 use Rattle.associates.proofs.associates.Statement.{statement}
 use Rattle.associates.proofs.associates.Tie as tie

@@ -1,61 +1,71 @@
--- The three sizes and the scratch are judged; then the product is written, and the scratch is cleared.
-use mathlib.Core.Path.{sym, _∙_}
+-- The rank, the three sizes and the scratch are judged; then the product is written, and the scratch is cleared.
+use mathlib.Core.Path.{_≡_, sym, _∙_}
 use native.Mathlib.Omega.{arith}
 use borrow.Author.Needs.{needs}
-use Rattle.element_calls.specs.Calls.{productCall}
-use Rattle.element_calls.proofs.Calls.{write-refused}
-use Rattle.hecke.proofs.WordSlices.{slice-element}
+use lib.ListN.{length}
+use Rattle.refusals.specs.Refusals.{_then_, refused}
+use Rattle.refusals.proofs.Verdicts.{both}
+use Rattle.refusals.proofs.Ended.{ended-refused}
+use Rattle.algebra.proofs.WordSlices.{slice-element}
+use Rattle.element_calls.specs.Calls.{rankVerdict, sizeVerdict, scratchVerdict, productCall}
 use Rattle.hecke.proofs.Products.{Checked, sizes, room, times-pre, product-done}
 use Rattle.hecke.proofs.product.Statement.{statement}
 use Rattle.hecke.proofs.product.Tie as tie
 
+-- the slices of the two factors
+abbrev factors : tie.After-then4 → tie.After-shared-slice-known2
+factors c = c .before .before .before .before .before .before .before .before .before .before .before
+
+abbrev start : tie.After-then4 → tie.Start
+start c = factors c .before .before
+
+-- the row of checks
+row : (c : tie.After-then4) → let u = start c .args in let size = sizeVerdict (u .m) in
+    c .then4 .result
+    ≡ (rankVerdict (u .m) then size (length (u .left .now)) then size (length (u .right .now)) then size (length (u .result .now))
+    then scratchVerdict (u .m) (length (u .scratch .now)))
+row c =
+    let last = c .before in let third = last .before .before in let second = third .before .before in let first = second .before .before in
+    both (c .then4 .ensures)
+    (both (last .before .then3 .ensures)
+    (both (third .before .then2 .ensures) (both (second .before .then .ensures) (first .before .rank .ensures) (first .sized .ensures))
+    (second .sized2 .ensures))
+    (third .sized3 .ensures))
+    (last .scratch .ensures)
+
+checked : (c : tie.After-scratch-size) → let u = start (c .before .before .before) .args in
+    Checked (u .m) (c .scratch-size .result) (u .left .now) (u .right .now) (u .result .now) (u .scratch .now)
+checked c = record { verdict = sym (row (c .before .before .before)) ∙ c .before .enum-told .given .1; need = c .scratch-size .ensures }
+
 returns : tie.Need-returns
 unfolding productCall
-returns c =
-    write-refused _ _ _ (sym (c .before .before .before .before .three-elements-and-scratch .ensures) ∙ c .before .before .checked .given .1)
-    (c .refused .ensures)
+returns c = ended-refused refused _ _ _ (sym (row (c .before .before .before .before)) ∙ c .before .before .checked .given .1) (c .refused .ensures)
 
 part-times-end : tie.Need-part-times-end
-part-times-end c =
-    let sized = c .before in let told = sized .before in let last = told .before .before in
-    let u = last .before .before .before .before .before .args in
-    let verdict = sym (last .three-elements-and-scratch .ensures) ∙ told .enum-told .given .1 in
-    let p : Checked (u .m) (sized .scratch-size .result) (u .left .now) (u .right .now) (u .result .now) (u .scratch .now) =
-    record { verdict = verdict; need = sized .scratch-size .ensures } in
-    omega (arith, room p)
+part-times-end c = omega (arith, room (checked (c .before)))
 
 times-requires : tie.Need-times-requires
-times-requires c κs =
-    let sized = c .before .before .before in let told = sized .before in
-    times-pre (record { verdict = sym (told .before .before .three-elements-and-scratch .ensures) ∙ told .enum-told .given .1; need = sized .scratch-size .ensures })
+times-requires c κs = times-pre (checked (c .before .before .before))
 
 part-clear-end : tie.Need-part-clear-end
-part-clear-end c =
-    let sized = c .before .before .before .before .before .before .before .before in let told = sized .before in let last = told .before .before in
-    let u = last .before .before .before .before .before .args in
-    let verdict = sym (last .three-elements-and-scratch .ensures) ∙ told .enum-told .given .1 in
-    let p : Checked (u .m) (sized .scratch-size .result) (u .left .now) (u .right .now) (u .result .now) (u .scratch .now) =
-    record { verdict = verdict; need = sized .scratch-size .ensures } in
-    omega (arith, room p)
+part-clear-end c = omega (arith, room (checked (c .before .before .before .before .before .before .before .before)))
 
 returns-2 : tie.Need-returns-2
 returns-2 c =
     let made = c .before .before .before .before .before .before .before .before .before .before in
-    let sized = made .before .before .before .before in let told = sized .before in let last = told .before .before in
-    let known = last .before in let s0 = known .before .before .before .before in let u = s0 .args in
-    let verdict = sym (last .three-elements-and-scratch .ensures) ∙ told .enum-told .given .1 in
-    let p : Checked (u .m) (sized .scratch-size .result) (u .left .now) (u .right .now) (u .result .now) (u .scratch .now) =
-    record { verdict = verdict; need = sized .scratch-size .ensures } in
-    let h = slice-element (sizes p .1) (known .before .before .before .shared-slice-known .given) in
-    let g = slice-element (sizes p .2) (known .before .before .shared-slice-known2 .given) in
-    product-done h g (u .q) (u .scratch .now) (made .times .last .1 .0) p
-    (s0 .fits .q .fits) (made .before .minus-one .ensures) (made .times .ensures) (made .times .kept .1 .0) (c .before .before .before .before .clear .ensures)
+    let sized = made .before .before .before .before in let p = checked sized in
+    let slices = factors (sized .before .before .before) in let s0 = slices .before .before in
+    let h = slice-element (sizes p .1) (slices .before .shared-slice-known .given) in
+    let g = slice-element (sizes p .2) (slices .shared-slice-known2 .given) in
+    product-done h g (s0 .args .q) (s0 .args .scratch .now) (made .times .last .1 .0) p (s0 .fits .q .fits)
+    (made .before .minus-one .ensures) (made .times .ensures) (made .times .kept .1 .0) (c .before .before .before .before .clear .ensures)
     (c .before .product-count .ensures) (c .accepted .ensures)
 
 pub product-spec : {M : Type 1} → statement M
 product-spec =
     tie.close
-    (tie.spec (λ c κs. search needs) (λ c. search needs) (λ c κs. search needs) returns (λ c. search needs) (λ c κs. search needs)
-    (λ c. search needs) (λ c. search needs) part-times-end (λ c κs. search needs) times-requires
+    (tie.spec (λ c κs. search needs) (λ c κs. search needs) (λ c κs. search needs) (λ c κs. search needs) (λ c κs. search needs) (λ c κs. search needs)
+    (λ c κs. search needs) (λ c κs. search needs) (λ c κs. search needs) (λ c. search needs) (λ c κs. search needs) returns (λ c. search needs)
+    (λ c κs. search needs) (λ c. search needs) (λ c. search needs) part-times-end (λ c κs. search needs) times-requires
     (λ c. search needs) (λ c. search needs) part-clear-end (λ c κs. search needs) (λ c κs. search needs) (λ c κs. search needs)
     (λ c. search needs) (λ c. search needs) returns-2)

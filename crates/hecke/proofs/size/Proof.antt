@@ -1,7 +1,7 @@
 -- Up to rank 6 the size is the factorial.
 use mathlib.Core.Path.{_∙_}
 use borrow.Author.Needs.{needs}
-use Rattle.element_calls.proofs.Sizes.{size-is}
+use Rattle.ranks.proofs.Sizes.{size-is}
 use Rattle.hecke.proofs.size.Statement.{statement}
 use Rattle.hecke.proofs.size.Tie as tie
 

@@ -1,10 +1,16 @@
--- The call, and what the caller is told of its answer.
+-- The call, and what is told of its answer. Rests on Near.
+use mathlib.Core.Path.{ap, _∙_}
 use borrow.Author.Needs.{needs}
-use Rattle.hecke_c.specs.Sheets.{verdictTold}
-use Rattle.hecke_c.proofs.Told.{answered}
+use Rattle.refusals.specs.Refusals.{verdictReport}
+use Rattle.hecke_c.specs.Returned.{wordOf}
+use Rattle.hecke_c.specs.Calls.{sheetCheck}
+use Rattle.hecke_c.proofs.Near.{check-near}
 use Rattle.hecke_c.proofs.hecke_sheet_check.Statement.{statement}
 use Rattle.hecke_c.proofs.hecke_sheet_check.Tie as tie
 
+returns : tie.Need-returns
+unfolding sheetCheck
+returns c = c .verdict .ensures ∙ ap (λ v. wordOf (verdictReport v)) (c .before .check .ensures)
+
 pub hecke-sheet-check-spec : {M : Type 1} → statement M
-hecke-sheet-check-spec =
-    tie.close (tie.spec (λ c κs. search needs) (λ c κs. search needs) (λ c. search needs) (λ c. search (answered verdictTold, needs)))
+hecke-sheet-check-spec = tie.close (tie.spec (λ c κs. search needs) (λ c κs. search (check-near, needs)) returns)

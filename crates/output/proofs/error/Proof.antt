@@ -3,10 +3,11 @@ use native.Mathlib.Nat.{le-trans}
 use native.Mathlib.Omega.{arith}
 use lib.ListN.{length}
 use borrow.Author.Needs.{needs}
-use Rattle.perms.proofs.Test.{less-yes, less-no}
+use Rattle.lists.proofs.Test.{less-yes, less-no}
+use Rattle.refusals.proofs.Verdicts.{number-within}
 use Rattle.output.specs.Text.{errorRoom}
 use Rattle.output.specs.Printed.{errorCall}
-use Rattle.output.proofs.LineLengths.{number-small, error-short}
+use Rattle.output.proofs.LineLengths.{error-short}
 use Rattle.output.proofs.Overwrite.{written-none}
 use Rattle.output.proofs.Front.{front-written}
 use Rattle.output.proofs.error.Statement.{statement}
@@ -18,7 +19,7 @@ returns c = rw (less-yes {x = length (c .before .before .args .buffer .now)} {a 
 
 put-tagged-pair-requires : tie.Need-put-tagged-pair-requires
 put-tagged-pair-requires c κs =
-    let few = number-small (c .before .before .before .before .before .args .why) in
+    let few = number-within (c .before .before .before .before .before .args .why) .1 in
     le-trans (error-short _ _ _ (omega (arith, few, c .before .number-of .ensures)) (omega arith)) (omega arith)
 
 returns-2 : tie.Need-returns-2

@@ -3,8 +3,8 @@ use native.Mathlib.Nat.{le-trans}
 use native.Mathlib.Omega.{arith}
 use borrow.Author.Needs.{needs}
 use mir.Val.{boolByte}
-use Rattle.perms.proofs.Test.{byte-bit}
-use Rattle.runner.proofs.Put.{lent-is}
+use Rattle.lists.proofs.Test.{byte-bit}
+use Rattle.machine.proofs.Put.{lent-is}
 use Rattle.output.proofs.LineLengths.{bit-small, line-short}
 use Rattle.output.proofs.Lent.{held, few}
 use Rattle.output.proofs.put_equality.Statement.{statement}

@@ -2,7 +2,7 @@
 use native.Mathlib.Nat.{le-trans}
 use native.Mathlib.Omega.{arith}
 use borrow.Author.Needs.{needs}
-use Rattle.runner.proofs.Put.{lent-is, lent-size}
+use Rattle.machine.proofs.Put.{lent-is, lent-size}
 use Rattle.output.proofs.LineLengths.{line-short}
 use Rattle.output.proofs.Lent.{held, few}
 use Rattle.output.proofs.put_pairing.Statement.{statement}

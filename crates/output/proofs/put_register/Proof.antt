@@ -3,7 +3,7 @@ use mathlib.Core.Path.{_∙_}
 use native.Mathlib.Nat.{le-trans, zero-add}
 use native.Mathlib.Omega.{arith}
 use borrow.Author.Needs.{needs}
-use Rattle.runner.proofs.Put.{lent-is}
+use Rattle.machine.proofs.Put.{lent-is}
 use Rattle.output.proofs.LineLengths.{digit-line, line-short}
 use Rattle.output.proofs.Overwrite.{written-more}
 use Rattle.output.proofs.Lent.{held, few, lent-few}

@@ -5,7 +5,7 @@ use native.Mathlib.Omega.{arith}
 use lib.ListN.{length}
 use borrow.Author.Needs.{needs}
 use borrow.Author.Tests.{not-true}
-use Rattle.perms.proofs.Test.{not-false, same-yes, same-no, less-yes, less-no}
+use Rattle.lists.proofs.Test.{not-false, same-yes, same-no, less-yes, less-no}
 use Rattle.sheet.specs.Check.{inRange}
 use Rattle.sheet.proofs.InRange.{low}
 use Rattle.output.specs.Text.{room}

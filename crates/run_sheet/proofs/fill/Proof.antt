@@ -8,8 +8,8 @@ use borrow.Author.Needs.{needs}
 use borrow.Author.Tests.{leb-true, leb-false}
 use borrow.Rule.Slice.PartMut.{mid-len, same-len-mid}
 use denote.Enum.Declared.{tagOf}
-use Rattle.sheet.proofs.Decoded as decoded
-use Rattle.runner.proofs.Answer as answer
+use Rattle.sheet_format.proofs.Decoded as decoded
+use Rattle.machine.proofs.Answer as answer
 use Rattle.output.specs.Text.{room}
 use Rattle.output.proofs.Front.{text-within}
 use Rattle.run_sheet.specs.Pieces.{machine}

@@ -3,14 +3,14 @@ use mathlib.Core.Path.{refl}
 use native.Mathlib.Omega.{arith}
 use borrow.Author.Needs.{needs}
 use lib.ListN.{length}
-use Rattle.perms.proofs.Test.{same-yes, same-no, less-yes, less-no}
+use Rattle.lists.proofs.Test.{same-yes, same-no, less-yes, less-no}
 use Rattle.sheet.specs.Check.{checkSheet}
 use Rattle.sheet.proofs.check.Statement.{statement}
 use Rattle.sheet.proofs.check.Tie as tie
 
 returns : tie.Need-returns
 unfolding checkSheet
-returns c = rw (same-yes (c .if1 .taken)) refl
+returns c = rw (same-yes {x = length (c .before .before .args .sheet .now)} {a = 0} (omega (arith, c .if1 .taken))) refl
 
 returns-2 : tie.Need-returns-2
 unfolding checkSheet

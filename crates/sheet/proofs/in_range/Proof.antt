@@ -2,7 +2,7 @@
 use mathlib.Core.Path.{refl}
 use native.Mathlib.Omega.{arith}
 use borrow.Author.Needs.{needs}
-use Rattle.perms.proofs.Test.{less-yes, less-no}
+use Rattle.lists.proofs.Test.{less-yes, less-no}
 use Rattle.sheet.specs.Check.{inRange}
 use Rattle.sheet.proofs.in_range.Statement.{statement}
 use Rattle.sheet.proofs.in_range.Tie as tie

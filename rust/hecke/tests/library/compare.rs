@@ -1,31 +1,100 @@
-//! Each call on one input: the safe call, and the raw call with every size of report, held to `plain`.
+//! Each call on one input: the safe call, and the raw call with every size of answer slice, held to `plain`.
 //!
 //! Each function takes the sizes of the buffers that the call writes, which hold random words before, and gives the answer.
 
-use crate::lent::{judge, Answer, Lent, REPORTS};
+use crate::lent::{judge, returned, Answer, Lent, ROOMS};
 use crate::random::Random;
 use hecke::raw;
 
-/// The answer of a call of either crate, from what it answers and how that is reported.
+/// The answer of a call of either crate, from what it answers and the words that these are.
 macro_rules! answer {
     ($result:expr, $value:pat => $words:expr) => {
-        $result.map(|$value| $words).map_err(|refusal| (refusal.number, refusal.place))
+        $result.map(|$value| $words.to_vec()).map_err(|refusal| (refusal.number, refusal.place))
+    };
+    ($result:expr) => {
+        answer!($result, count => [count])
     };
 }
 
-/// A call that writes a list made from one list.
+/// A call that writes a list made from one list, and answers nothing.
 macro_rules! writes_list {
-    ($name:ident, $raw:ident, $value:pat => $words:expr) => {
+    ($name:ident, $raw:ident) => {
         pub fn $name(random: &mut Random, list: &[u8], room: usize) -> Answer {
             let old = random.bytes(room);
             let (mut due, mut safe) = (old.clone(), old.clone());
-            let answer = answer!(plain::$name(list, &mut due), $value => $words);
-            assert_eq!(answer!(hecke::$name(list, &mut safe), $value => $words), answer);
+            let answer = answer!(plain::$name(list, &mut due), () => []);
+            assert_eq!(answer!(hecke::$name(list, &mut safe), () => []), answer);
             assert_eq!(safe, due);
-            for size in REPORTS {
+            let (mut input, mut result) = (Lent::new(list), Lent::new(&old));
+            let word = unsafe { raw::$raw(input.ptr(), input.len(), result.ptr(), result.len()) };
+            assert_eq!(word, returned(&answer));
+            input.assert_holds(list);
+            result.assert_holds(&due);
+            answer
+        }
+    };
+}
+
+writes_list!(tower_of_images, hecke_tower_of_images);
+writes_list!(images_of_tower, hecke_images_of_tower);
+writes_list!(tower_inverse, hecke_tower_inverse);
+
+pub fn tower_product(random: &mut Random, left: &[u8], right: &[u8], room: usize) -> Answer {
+    let old = random.bytes(room);
+    let (mut due, mut safe) = (old.clone(), old.clone());
+    let answer = answer!(plain::tower_product(left, right, &mut due), () => []);
+    assert_eq!(answer!(hecke::tower_product(left, right, &mut safe), () => []), answer);
+    assert_eq!(safe, due);
+    let (mut u, mut v, mut uv) = (Lent::new(left), Lent::new(right), Lent::new(&old));
+    let word = unsafe { raw::hecke_tower_product(u.ptr(), u.len(), v.ptr(), v.len(), uv.ptr(), uv.len()) };
+    assert_eq!(word, returned(&answer));
+    u.assert_holds(left);
+    v.assert_holds(right);
+    uv.assert_holds(&due);
+    answer
+}
+
+/// A call that only answers on a list.
+macro_rules! answers {
+    ($name:ident, $raw:ident, $value:pat => $words:expr) => {
+        pub fn $name(list: &[u8]) -> Answer {
+            let answer = answer!(plain::$name(list), $value => $words);
+            assert_eq!(answer!(hecke::$name(list), $value => $words), answer);
+            for room in ROOMS {
+                let mut input = Lent::new(list);
+                judge(&answer, room, |words, room| unsafe { raw::$raw(input.ptr(), input.len(), words, room) });
+                input.assert_holds(list);
+            }
+            answer
+        }
+    };
+}
+
+answers!(tower_length, hecke_tower_length, length => [length]);
+answers!(tower_descents, hecke_tower_descents, descents => [descents.mask, descents.count]);
+
+pub fn sheet_check(sheet: &[u8]) -> Answer {
+    let answer = answer!(plain::sheet_check(sheet), () => []);
+    assert_eq!(answer!(hecke::sheet_check(sheet), () => []), answer);
+    let mut input = Lent::new(sheet);
+    assert_eq!(unsafe { raw::hecke_sheet_check(input.ptr(), input.len()) }, returned(&answer));
+    input.assert_holds(sheet);
+    answer
+}
+
+/// A call that writes a buffer made from one list, and answers a count.
+macro_rules! writes_and_counts {
+    ($name:ident, $raw:ident, $fill:ident) => {
+        pub fn $name(random: &mut Random, list: &[u8], room: usize) -> Answer {
+            let old = random.$fill(room);
+            let (mut due, mut safe) = (old.clone(), old.clone());
+            let answer = answer!(plain::$name(list, &mut due));
+            assert_eq!(answer!(hecke::$name(list, &mut safe)), answer);
+            assert!(safe == due);
+            for room in ROOMS {
                 let (mut input, mut result) = (Lent::new(list), Lent::new(&old));
-                judge(answer, 2, size, |report, size| unsafe {
-                    raw::$raw(input.ptr(), input.len(), result.ptr(), result.len(), report, size)
+                judge(&answer, room, |words, room| unsafe {
+                    raw::$raw(input.ptr(), input.len(), result.ptr(), result.len(), words, room)
                 });
                 input.assert_holds(list);
                 result.assert_holds(&due);
@@ -35,59 +104,19 @@ macro_rules! writes_list {
     };
 }
 
-writes_list!(tower_of_images, hecke_tower_of_images, () => [0, 0]);
-writes_list!(images_of_tower, hecke_images_of_tower, () => [0, 0]);
-writes_list!(tower_inverse, hecke_tower_inverse, () => [0, 0]);
-writes_list!(tower_word, hecke_tower_word, letters => [letters, 0]);
-
-/// A call that only reports on a list, in so many words.
-macro_rules! reports {
-    ($name:ident, $raw:ident, $written:expr, $value:pat => $words:expr) => {
-        pub fn $name(list: &[u8]) -> Answer {
-            let answer = answer!(plain::$name(list), $value => $words);
-            assert_eq!(answer!(hecke::$name(list), $value => $words), answer);
-            for size in REPORTS {
-                let mut input = Lent::new(list);
-                judge(answer, $written, size, |report, size| unsafe { raw::$raw(input.ptr(), input.len(), report, size) });
-                input.assert_holds(list);
-            }
-            answer
-        }
-    };
-}
-
-reports!(tower_length, hecke_tower_length, 2, length => [length, 0]);
-reports!(tower_descents, hecke_tower_descents, 3, descents => [descents.count, descents.mask]);
-reports!(sheet_check, hecke_sheet_check, 2, () => [0, 0]);
-
-pub fn tower_product(random: &mut Random, left: &[u8], right: &[u8], room: usize) -> Answer {
-    let old = random.bytes(room);
-    let (mut due, mut safe) = (old.clone(), old.clone());
-    let answer = answer!(plain::tower_product(left, right, &mut due), () => [0, 0]);
-    assert_eq!(answer!(hecke::tower_product(left, right, &mut safe), () => [0, 0]), answer);
-    assert_eq!(safe, due);
-    for size in REPORTS {
-        let (mut u, mut v, mut uv) = (Lent::new(left), Lent::new(right), Lent::new(&old));
-        judge(answer, 2, size, |report, size| unsafe {
-            raw::hecke_tower_product(u.ptr(), u.len(), v.ptr(), v.len(), uv.ptr(), uv.len(), report, size)
-        });
-        u.assert_holds(left);
-        v.assert_holds(right);
-        uv.assert_holds(&due);
-    }
-    answer
-}
+writes_and_counts!(tower_word, hecke_tower_word, bytes);
+writes_and_counts!(run_sheet, hecke_run_sheet, words);
 
 pub fn sum(random: &mut Random, m: usize, left: &[u64], right: &[u64], room: usize) -> Answer {
     let old = random.words(room);
     let (mut due, mut safe) = (old.clone(), old.clone());
-    let answer = answer!(plain::sum(m, left, right, &mut due), count => [count, 0]);
-    assert_eq!(answer!(hecke::sum(m, left, right, &mut safe), count => [count, 0]), answer);
+    let answer = answer!(plain::sum(m, left, right, &mut due));
+    assert_eq!(answer!(hecke::sum(m, left, right, &mut safe)), answer);
     assert_eq!(safe, due);
-    for size in REPORTS {
+    for room in ROOMS {
         let (mut h, mut g, mut result) = (Lent::new(left), Lent::new(right), Lent::new(&old));
-        judge(answer, 2, size, |report, size| unsafe {
-            raw::hecke_sum(m, h.ptr(), h.len(), g.ptr(), g.len(), result.ptr(), result.len(), report, size)
+        judge(&answer, room, |words, room| unsafe {
+            raw::hecke_sum(m, h.ptr(), h.len(), g.ptr(), g.len(), result.ptr(), result.len(), words, room)
         });
         h.assert_holds(left);
         g.assert_holds(right);
@@ -99,13 +128,13 @@ pub fn sum(random: &mut Random, m: usize, left: &[u64], right: &[u64], room: usi
 pub fn scale(random: &mut Random, m: usize, c: u64, element: &[u64], room: usize) -> Answer {
     let old = random.words(room);
     let (mut due, mut safe) = (old.clone(), old.clone());
-    let answer = answer!(plain::scale(m, c, element, &mut due), count => [count, 0]);
-    assert_eq!(answer!(hecke::scale(m, c, element, &mut safe), count => [count, 0]), answer);
+    let answer = answer!(plain::scale(m, c, element, &mut due));
+    assert_eq!(answer!(hecke::scale(m, c, element, &mut safe)), answer);
     assert_eq!(safe, due);
-    for size in REPORTS {
+    for room in ROOMS {
         let (mut h, mut result) = (Lent::new(element), Lent::new(&old));
-        judge(answer, 2, size, |report, size| unsafe {
-            raw::hecke_scale(m, c, h.ptr(), h.len(), result.ptr(), result.len(), report, size)
+        judge(&answer, room, |words, room| unsafe {
+            raw::hecke_scale(m, c, h.ptr(), h.len(), result.ptr(), result.len(), words, room)
         });
         h.assert_holds(element);
         result.assert_holds(&due);
@@ -115,13 +144,13 @@ pub fn scale(random: &mut Random, m: usize, c: u64, element: &[u64], room: usize
 
 pub fn act_word(m: usize, q: u64, word: &[u8], element: &[u64]) -> Answer {
     let (mut due, mut safe) = (element.to_vec(), element.to_vec());
-    let answer = answer!(plain::act_word(m, q, word, &mut due), count => [count, 0]);
-    assert_eq!(answer!(hecke::act_word(m, q, word, &mut safe), count => [count, 0]), answer);
+    let answer = answer!(plain::act_word(m, q, word, &mut due));
+    assert_eq!(answer!(hecke::act_word(m, q, word, &mut safe)), answer);
     assert_eq!(safe, due);
-    for size in REPORTS {
+    for room in ROOMS {
         let (mut letters, mut h) = (Lent::new(word), Lent::new(element));
-        judge(answer, 2, size, |report, size| unsafe {
-            raw::hecke_act_word(m, q, letters.ptr(), letters.len(), h.ptr(), h.len(), report, size)
+        judge(&answer, room, |words, room| unsafe {
+            raw::hecke_act_word(m, q, letters.ptr(), letters.len(), h.ptr(), h.len(), words, room)
         });
         letters.assert_holds(word);
         h.assert_holds(&due);
@@ -142,14 +171,14 @@ pub fn product(random: &mut Random, factors: Factors, room: usize, scratch: usiz
     let (old, work) = (random.words(room), random.words(scratch));
     let (mut due, mut due_work) = (old.clone(), work.clone());
     let (mut safe, mut safe_work) = (old.clone(), work.clone());
-    let answer = answer!(plain::product(m, q, left, right, &mut due, &mut due_work), count => [count, 0]);
-    assert_eq!(answer!(hecke::product(m, q, left, right, &mut safe, &mut safe_work), count => [count, 0]), answer);
+    let answer = answer!(plain::product(m, q, left, right, &mut due, &mut due_work));
+    assert_eq!(answer!(hecke::product(m, q, left, right, &mut safe, &mut safe_work)), answer);
     assert!(safe == due && safe_work == due_work);
-    for size in REPORTS {
+    for room in ROOMS {
         let (mut h, mut g, mut hg, mut lent_work) = (Lent::new(left), Lent::new(right), Lent::new(&old), Lent::new(&work));
-        let (words, room) = (lent_work.ptr(), lent_work.len());
-        judge(answer, 2, size, |report, size| unsafe {
-            raw::hecke_product(m, q, h.ptr(), h.len(), g.ptr(), g.len(), hg.ptr(), hg.len(), words, room, report, size)
+        let (scratch, size) = (lent_work.ptr(), lent_work.len());
+        judge(&answer, room, |words, room| unsafe {
+            raw::hecke_product(m, q, h.ptr(), h.len(), g.ptr(), g.len(), hg.ptr(), hg.len(), scratch, size, words, room)
         });
         h.assert_holds(left);
         g.assert_holds(right);

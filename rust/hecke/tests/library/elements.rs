@@ -1,21 +1,32 @@
-//! Elements: sum, scaling, word action and product.
+//! Elements: their sizes, sum, scaling, word action and product.
 
 use crate::compare::*;
 use crate::lent::Answer;
 use crate::random::{Random, EDGES};
-use plain::element::size;
+use hecke::{scratch_size, size};
 
 /// Ranks that every call refuses.
 const ABOVE: [usize; 6] = [7, 8, 255, 256, 1 << 32, usize::MAX];
 
 /// A product of factors of the right sizes, with a scratch that may be larger than is asked for.
 fn good_product(random: &mut Random, m: usize, q: u64, left: &[u64], right: &[u64]) {
-    let scratch = (m + 6) * size(m) + random.pick(&[0, 1, 7, 100]);
+    let scratch = scratch_size(m) + random.pick(&[0, 1, 7, 100]);
     assert!(product(random, Factors { m, q, left, right }, size(m), scratch).is_ok());
 }
 
 fn unit(m: usize, place: usize) -> Vec<u64> {
     (0..size(m)).map(|index| (index == place) as u64).collect()
+}
+
+#[test]
+fn sizes_of_every_rank() {
+    for m in 0..=6 {
+        assert_eq!(size(m), plain::element::size(m));
+        assert_eq!(scratch_size(m), (m + 6) * plain::element::size(m));
+    }
+    for m in (7..100_000).chain(ABOVE).chain(usize::MAX - 10..=usize::MAX) {
+        assert_eq!((size(m), scratch_size(m)), (0, 0), "rank {m}");
+    }
 }
 
 #[test]
@@ -69,7 +80,7 @@ fn factors_may_overlap() {
         for (left, right) in [(0, 0), (0, 1), (1, 0)] {
             good_product(random, m, 3, &words[left..left + size(m)], &words[right..right + size(m)]);
             let (mut due, mut got) = (vec![0; size(m)], vec![0; size(m)]);
-            let mut scratch = vec![1; (m + 6) * size(m)];
+            let mut scratch = vec![1; scratch_size(m)];
             let (h, g) = (&words[left..left + size(m)], &words[right..right + size(m)]);
             plain::product(m, 3, h, g, &mut due, &mut scratch.clone()).unwrap();
             hecke::product(m, 3, h, g, &mut got, &mut scratch).unwrap();
@@ -113,7 +124,7 @@ fn words_of_4096_and_4097_letters() {
         let element = random.words(size(m));
         let longest = random.letters(m, 4096);
         let count = 4096 * 3 * size(m) as u64 / 2;
-        assert_eq!(act_word(m, 3, &longest, &element), Ok([count, 0]));
+        assert_eq!(act_word(m, 3, &longest, &element), Ok(vec![count]));
         for size in [4097, 100_000] {
             let mut word = random.letters(m, size);
             assert_eq!(act_word(m, 3, &word, &element), Err((4, 4096)));
@@ -138,8 +149,8 @@ fn sums_and_scalings() {
     for m in 0..=6 {
         for _ in 0..if m < 5 { 100 } else { 10 } {
             let (left, right, c) = (random.element(size(m)), random.element(size(m)), random.parameter());
-            assert_eq!(sum(random, m, &left, &right, size(m)), Ok([size(m) as u64, 0]));
-            assert_eq!(scale(random, m, c, &left, size(m)), Ok([size(m) as u64, 0]));
+            assert_eq!(sum(random, m, &left, &right, size(m)), Ok(vec![size(m) as u64]));
+            assert_eq!(scale(random, m, c, &left, size(m)), Ok(vec![size(m) as u64]));
         }
     }
 }
@@ -165,14 +176,14 @@ fn due(m: usize, lent: &[usize], then: Answer) -> Answer {
 fn sums_and_scalings_of_wrong_sizes() {
     let random = &mut Random(20);
     for m in (0..=6).chain(ABOVE) {
-        let count = Ok([if m > 6 { 0 } else { size(m) as u64 }, 0]);
+        let count: Answer = Ok(vec![size(m) as u64]);
         for left in sizes(m) {
             for result in sizes(m) {
                 let h = random.words(left);
-                assert_eq!(scale(random, m, 3, &h, result), due(m, &[left, result], count));
+                assert_eq!(scale(random, m, 3, &h, result), due(m, &[left, result], count.clone()));
                 for right in sizes(m) {
                     let g = random.words(right);
-                    assert_eq!(sum(random, m, &h, &g, result), due(m, &[left, right, result], count));
+                    assert_eq!(sum(random, m, &h, &g, result), due(m, &[left, right, result], count.clone()));
                 }
             }
         }
@@ -186,7 +197,7 @@ fn words_of_wrong_sizes() {
         let m_byte = m.min(6) as u8;
         for words in sizes(m) {
             let element = random.words(words);
-            assert_eq!(act_word(m, 2, &[], &element), due(m, &[words], Ok([0, 0])));
+            assert_eq!(act_word(m, 2, &[], &element), due(m, &[words], Ok(vec![0])));
             assert_eq!(act_word(m, 2, &[m_byte + 1], &element), due(m, &[words], Err((4, 0))));
             assert_eq!(act_word(m, 2, &[0; 4097], &element), due(m, &[words], Err((4, 4096))));
             let late = [vec![m_byte.max(1); 5], vec![0, 0]].concat();
@@ -200,13 +211,13 @@ fn words_of_wrong_sizes() {
 fn products_of_wrong_sizes() {
     let random = &mut Random(22);
     for m in (0..=6).chain(ABOVE) {
-        let room = if m > 6 { 0 } else { (m + 6) * size(m) };
+        let room = scratch_size(m);
         let count = if m > 6 { 0 } else { plain::count::of_product(m) };
         for left in sizes(m) {
             for right in sizes(m) {
                 for result in sizes(m) {
                     for scratch in [0, room.saturating_sub(1), room, room + 50] {
-                        let then = if scratch < room { Err((3, 0)) } else { Ok([count, 0]) };
+                        let then = if scratch < room { Err((3, 0)) } else { Ok(vec![count]) };
                         let due = due(m, &[left, right, result], then);
                         if m < 5 || due.is_err() {
                             let (h, g) = (random.words(left), random.words(right));

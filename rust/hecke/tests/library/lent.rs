@@ -1,12 +1,12 @@
-//! Slices between guards, and reports of several sizes.
+//! Slices between guards, and answer slices of several sizes.
 
 use std::fmt::Debug;
 use std::ptr::null_mut;
 
 const GUARDS: usize = 16;
 
-/// The sizes of the reports that every raw call is tried with.
-pub const REPORTS: [usize; 5] = [0, 1, 2, 3, 5];
+/// The sizes of the answer slices that every raw call is tried with.
+pub const ROOMS: [usize; 5] = [0, 1, 2, 3, 5];
 
 /// A slice to lend to a raw call, with guards before and after it.
 pub struct Lent<T> {
@@ -42,18 +42,24 @@ impl<T: Copy + Debug + From<u8> + PartialEq> Lent<T> {
     }
 }
 
-/// What a call is due to answer: its count and mask, or the number and place of its refusal.
-pub type Answer = Result<[u64; 2], (u8, u64)>;
+/// What a call is due to answer: the words for its answer slice, or the number and place of its refusal.
+pub type Answer = Result<Vec<u64>, (u8, u64)>;
 
-/// Makes a raw call with a report of this size, and judges its number and the report, of which it writes so many words.
-pub fn judge(due: Answer, written: usize, size: usize, call: impl FnOnce(*mut u64, usize) -> u8) {
-    let (number, words) = match due {
-        Ok([count, mask]) => (0, [0, count, mask]),
-        Err((number, place)) => (number, [place, 0, 0]),
-    };
-    let mut content: Vec<u64> = (0..size as u64).map(|index| !index).collect();
-    let mut report = Lent::new(&content);
-    assert_eq!(call(report.ptr(), size), number);
-    content.iter_mut().zip(&words[..written]).for_each(|(word, &new)| *word = new);
-    report.assert_holds(&content);
+/// The word that a call with this answer returns.
+pub fn returned(due: &Answer) -> u64 {
+    match due {
+        Ok(_) => 0,
+        Err((number, place)) => *number as u64 + 256 * place,
+    }
+}
+
+/// Makes a raw call with an answer slice of this size, and judges the word that it returns and what then stands in the slice.
+pub fn judge(due: &Answer, room: usize, call: impl FnOnce(*mut u64, usize) -> u64) {
+    let mut content: Vec<u64> = (0..room as u64).map(|index| !index).collect();
+    let mut answer = Lent::new(&content);
+    assert_eq!(call(answer.ptr(), room), returned(due));
+    if let Ok(words) = due {
+        content.iter_mut().zip(words).for_each(|(word, &new)| *word = new);
+    }
+    answer.assert_holds(&content);
 }

@@ -7,5 +7,6 @@ mod compare;
 mod elements;
 mod lent;
 mod random;
+mod runs;
 mod sheets;
 mod towers;

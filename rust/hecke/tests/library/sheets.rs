@@ -2,7 +2,7 @@
 
 use crate::compare::sheet_check;
 use crate::random::Random;
-use plain::element::size;
+use hecke::size;
 
 /// The codes, and the widths of their operands.
 const COMMANDS: [(u8, usize); 11] =
@@ -28,7 +28,7 @@ fn command(random: &mut Random, m: usize) -> Vec<u8> {
 }
 
 /// A sheet of rank m and of exactly so many bytes, 11 or from 13 on, that nothing refuses but its size.
-fn sheet(random: &mut Random, m: usize, bytes: usize) -> Vec<u8> {
+pub fn sheet(random: &mut Random, m: usize, bytes: usize) -> Vec<u8> {
     let mut sheet = begin(random, m);
     while sheet.len() + 1 < bytes {
         let (next, rest) = (command(random, m), bytes - 1 - sheet.len());
@@ -47,7 +47,7 @@ fn sheets_that_nothing_refuses() {
     for m in 0..=5 {
         for bytes in [11, 13, 14, 15, 100, 1000, 4095, 4096] {
             let sheet = sheet(random, m, bytes);
-            assert_eq!(sheet_check(&sheet), Ok([0, 0]));
+            assert_eq!(sheet_check(&sheet), Ok(vec![]));
             assert_eq!(sheet_check(&[&sheet[..], &[0]].concat()), Err(if bytes == 4096 { (9, 0) } else { (14, bytes as u64) }));
         }
         assert_eq!(sheet_check(&sheet(random, m, 4097)), Err((9, 0)));
@@ -131,25 +131,29 @@ fn operands_at_the_ends_of_their_ranges() {
     }
 }
 
-/// Sheets in which each command may be damaged, so that faults meet in every order.
+/// A sheet in which each command may be damaged, so that faults meet in every order.
+pub fn faulty(random: &mut Random) -> Vec<u8> {
+    let m = random.below(6);
+    let mut sheet = if random.below(9) == 0 { vec![] } else { begin(random, m) };
+    for _ in 0..random.below(6) {
+        sheet.extend(match random.below(16) {
+            0 => vec![random.pick(&[0x01, 0x11, 0x22, 0x34, 0x43, 0xff])],
+            1 => begin(random, m),
+            2 => vec![random.pick(&[0x20, 0x40]), 4],
+            3 => vec![0],
+            _ => command(random, m),
+        });
+    }
+    sheet.extend(random.pick(&[&[0][..], &[], &[0, 0], &[0x33, 0]]));
+    sheet
+}
+
 #[test]
 fn faults_together() {
     let random = &mut Random(36);
     let mut met = std::collections::BTreeMap::new();
     for _ in 0..20_000 {
-        let m = random.below(6);
-        let mut sheet = if random.below(9) == 0 { vec![] } else { begin(random, m) };
-        for _ in 0..random.below(6) {
-            sheet.extend(match random.below(16) {
-                0 => vec![random.pick(&[0x01, 0x11, 0x22, 0x34, 0x43, 0xff])],
-                1 => begin(random, m),
-                2 => vec![random.pick(&[0x20, 0x40]), 4],
-                3 => vec![0],
-                _ => command(random, m),
-            });
-        }
-        sheet.extend(random.pick(&[&[0][..], &[], &[0, 0], &[0x33, 0]]));
-        let number = sheet_check(&sheet).map_or_else(|(number, _)| number, |_| 0);
+        let number = sheet_check(&faulty(random)).map_or_else(|(number, _)| number, |_| 0);
         *met.entry(number).or_insert(0) += 1;
     }
     assert_eq!(met.keys().copied().collect::<Vec<u8>>(), [0, 9, 10, 11, 12, 13, 14]);

@@ -6,9 +6,9 @@ use Prim.Native.Nat.{ℕ, _-_}
 use native.Mathlib.Omega.{arith}
 use lib.Dec.{ltb}
 use lib.ListN.{length, getD}
-use Rattle.perms.specs.Lists.{same, less}
-use Rattle.perms.proofs.Test.{same-yes, same-no}
-use Rattle.perms.proofs.First.{From, first-start, first-here, first-next, first-none}
+use Rattle.lists.specs.Lists.{same, less}
+use Rattle.lists.proofs.Test.{same-yes, same-no}
+use Rattle.lists.proofs.First.{From, first-start, first-here, first-next, first-none}
 use Rattle.element_calls.specs.Calls.{firstBadLetter}
 use Rattle.element_calls.proofs.checks.first_bad_letter.Statement.{statement}
 use Rattle.element_calls.proofs.checks.first_bad_letter.Tie as tie

@@ -2,7 +2,7 @@
 use native.Mathlib.Omega.{arith}
 use borrow.Author.Needs.{needs}
 use lib.ListN.{length}
-use Rattle.perms.proofs.Test.{less-yes, less-no}
+use Rattle.lists.proofs.Test.{less-yes, less-no}
 use Rattle.element_calls.specs.Calls.{wordVerdict}
 use Rattle.element_calls.proofs.checks.word.Statement.{statement}
 use Rattle.element_calls.proofs.checks.word.Tie as tie

@@ -7,9 +7,9 @@ use lib.ListN.{length}
 use borrow.Rule.Slice.PartMut.{putMid, same-len-mid}
 use borrow.Fn.Kinds.{In}
 use borrow.Fn.PlainCycle.{Measures, is, falls, and}
+use Rattle.lists.proofs.Parts.{fits-block, part-size}
+use Rattle.lists.proofs.Passed.{Passed, passed-none, passed-more, passed-all}
 use Rattle.hecke.specs.Steps.{acted}
-use Rattle.hecke.proofs.Parts.{fits-block, part-size}
-use Rattle.hecke.proofs.Passed.{Passed, passed-none, passed-more, passed-all}
 use Rattle.hecke.proofs.Pieces.{acted-none}
 use Rattle.hecke.proofs.Middle.{step-pre, Turning, turning-none, turning-more, turning-all}
 use Rattle.hecke.proofs.Act.{Cut, letter-pre, high-within, low-pre, middle-end, middle-pre, high-end, high-pre, act-length, act-whole}
@@ -23,8 +23,8 @@ use Rattle.hecke.proofs.action.middle.Reads as middle
 use Rattle.hecke.proofs.action.middle.Kinds as middle-kinds
 use Rattle.hecke.proofs.action.+act+each+middle.Lts-middle as middle-lts
 use Rattle.hecke.proofs.action.letter.Reads as letter-reads
-use Rattle.hecke.proofs.lists.collect.Reads as collect-reads
-use Rattle.hecke.proofs.lists.turn.Reads as turn-reads
+use Rattle.hecke.proofs.blocks.collect.Reads as collect-reads
+use Rattle.hecke.proofs.blocks.turn.Reads as turn-reads
 use Rattle.hecke.proofs.size.Reads as size-reads
 use Rattle.hecke.proofs.action.+act+each+middle.{statement}
 use Rattle.hecke.proofs.action.+act+each+middle.Tie.{close}

@@ -7,9 +7,9 @@ use native.Mathlib.Omega.{arith}
 use lib.ListN.{length}
 use borrow.Fn.Kinds.{In}
 use borrow.Fn.PlainCycle.{Measures, is, falls, and}
+use Rattle.lists.proofs.Parts.{fits-block, part-size}
+use Rattle.lists.proofs.Passed.{Passed, passed-none, passed-more, passed-all}
 use Rattle.hecke.specs.Steps.{acted, ActPre}
-use Rattle.hecke.proofs.Parts.{fits-block, part-size}
-use Rattle.hecke.proofs.Passed.{Passed, passed-none, passed-more, passed-all}
 use Rattle.hecke.proofs.Middle.{exchanged-one}
 use Rattle.hecke.proofs.LowRanks.{rank-one-size, letter-rank-one}
 use Rattle.hecke.proofs.Act.{Cut, high-within, low-pre, middle-end, middle-size, high-end, high-pre, act-length, act-whole}
@@ -20,7 +20,7 @@ use Rattle.hecke.proofs.action.letter.Reads as letter
 use Rattle.hecke.proofs.action.letter.Kinds as letter-kinds
 use Rattle.hecke.proofs.action.+each_letter+letter.Lts-letter as letter-lts
 use Rattle.hecke.proofs.action.letter_of_rank_two.Reads as rank-two-reads
-use Rattle.hecke.proofs.lists.exchange.Reads as exchange-reads
+use Rattle.hecke.proofs.blocks.exchange.Reads as exchange-reads
 use Rattle.hecke.proofs.size.Reads as size-reads
 use Rattle.hecke.proofs.action.+each_letter+letter.{statement}
 use Rattle.hecke.proofs.action.+each_letter+letter.Tie.{close}

@@ -2,9 +2,9 @@
 use mathlib.Core.Path.{sym, _∙_}
 use Prim.Native.Nat.{_-_, _≤_}
 use native.Mathlib.Omega.{arith}
+use Rattle.lists.proofs.All.{all-getD}
 use Rattle.perms.specs.Permutation.{Letter}
-use Rattle.perms.proofs.All.{all-getD}
-use Rattle.hecke.proofs.WordSlices.{slice-element}
+use Rattle.algebra.proofs.WordSlices.{slice-element}
 use Rattle.hecke.proofs.Letters.{Acting, acting-none, acting-more, acting-all}
 use Rattle.hecke.proofs.action.act_letters.Statement.{statement}
 use Rattle.hecke.proofs.action.act_letters.Tie as tie

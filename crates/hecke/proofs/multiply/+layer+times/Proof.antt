@@ -3,11 +3,12 @@
 use mathlib.Core.Path.{_≡_, sym, ap, _∙_}
 use Prim.Native.Nat.{ℕ, _+_, _-_, _≤_, _<_}
 use native.Mathlib.Omega.{arith}
+use borrow.Author.Needs.{needs}
 use borrow.Fn.Kinds.{In}
 use borrow.Fn.PlainCycle.{Measures, is, falls, and}
+use Rattle.word_lists.proofs.scale_into.Reads as scale-into-reads
 use Rattle.hecke.specs.Steps.{multiplied}
-use Rattle.hecke.proofs.Layers.{times-pre, act-pre, layer-whole, size-one, multiplied-zero, one-pre, summand, Summing, summing-none}
-use Rattle.hecke.proofs.Layers.{layer-pre, collect-pre, finish-pre, summing-more, times-whole}
+use Rattle.hecke.proofs.Layers.{times-pre, act-pre, layer-whole, size-one, zero-whole, one-pre, summand, Summing, summing-none, layer-pre, collect-pre, finish-pre, summing-more, times-whole}
 use Rattle.hecke.proofs.multiply.layer.Reads as layer
 use Rattle.hecke.proofs.multiply.layer.Kinds as layer-kinds
 use Rattle.hecke.proofs.multiply.+layer+times.Lts-layer as layer-lts
@@ -15,9 +16,8 @@ use Rattle.hecke.proofs.multiply.times.Reads as times
 use Rattle.hecke.proofs.multiply.times.Kinds as times-kinds
 use Rattle.hecke.proofs.multiply.+layer+times.Lts-times as times-lts
 use Rattle.hecke.proofs.action.act.Reads as act-reads
-use Rattle.hecke.proofs.lists.collect.Reads as collect-reads
-use Rattle.hecke.proofs.lists.finish.Reads as finish-reads
-use Rattle.hecke.proofs.lists.scale_into.Reads as scale-into-reads
+use Rattle.hecke.proofs.blocks.collect.Reads as collect-reads
+use Rattle.hecke.proofs.blocks.finish.Reads as finish-reads
 use Rattle.hecke.proofs.multiply.times_one.Reads as times-one-reads
 use Rattle.hecke.proofs.size.Reads as size-reads
 use Rattle.hecke.proofs.multiply.+layer+times.{statement}
@@ -96,14 +96,10 @@ times-shared-slice-read-scale-into t c =
     let s0 = c .before .before .before .before .before .before .before in
     omega (arith, s0 .pre .1 .right, size-one (s0 .args .l) (c .before .before .if1 .taken))
 
-times-scale-into-requires : (t : ℕ) → times-lts.Need-scale-into-requires (times-claims t) (times-at t) times.Post times-Inv-loop times-μ-loop
-times-scale-into-requires t c κs = let pre = c .before .before .before .before .before .before .before .pre .1 in pre .result ∙ sym (pre .left)
-
 times-returns : (t : ℕ) → times-lts.Need-returns (times-claims t) (times-at t) times.Post times-Inv-loop times-μ-loop
 times-returns t c =
-    let u = c .before .before .before .before .before .before .before .before .before .before .args in
-    let none = c .before .before .before .before .before .if1 .taken in
-    c .before .before .scale-into .ensures ∙ multiplied-zero (u .q) (u .r) (u .m) (u .l) (u .h .now) (u .g .now) none
+    let s0 = c .before .before .before .before .before .before .before .before .before .before in
+    zero-whole (s0 .args .q) (s0 .args .r) (s0 .pre .1) (c .before .before .before .before .before .if1 .taken) (c .before .before .scale-into .ensures)
 
 times-times-one-requires : (t : ℕ) → times-lts.Need-times-one-requires (times-claims t) (times-at t) times.Post times-Inv-loop times-μ-loop
 times-times-one-requires t c κs =
@@ -202,7 +198,7 @@ pub +layer+times-spec : {M : Type 1} → statement M
     (layer-returns t))
     (λ t. times-lts.spec (times-claims t) (times-at t) times.Post times-Inv-loop times-μ-loop
     (times-shared-slice-read-scale-into t)
-    (times-scale-into-requires t)
+    (λ c κs. search needs)
     (λ c. c .before .before .scale-into .kept .0)
     (times-returns t)
     (λ c κs. omega arith)

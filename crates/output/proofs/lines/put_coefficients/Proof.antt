@@ -3,7 +3,7 @@ use mathlib.Core.Path.{_≡_, refl}
 use Prim.Native.Nat.{_-_, _^_, _≤_, _<_}
 use native.Mathlib.Omega.{arith}
 use lib.ListN.{length}
-use Rattle.perms.proofs.All.{all-index}
+use Rattle.lists.proofs.All.{all-index}
 use Rattle.output.proofs.Listing.{Listed, listed-none, listed-size, listed-room, listed-more, listed-all}
 use Rattle.output.proofs.lines.put_coefficients.Statement.{statement}
 use Rattle.output.proofs.lines.put_coefficients.Tie as tie

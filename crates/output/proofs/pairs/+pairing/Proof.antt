@@ -6,12 +6,12 @@ use lib.ListN.{length}
 use borrow.Author.Needs.{needs}
 use borrow.Fn.Kinds.{In}
 use borrow.Fn.PlainCycle.{Measures, is, falls, and}
+use Rattle.ring.proofs.add.Reads as add-reads
+use Rattle.ring.proofs.mul.Reads as mul-reads
 use Rattle.output.proofs.Horner.{blockSize, Summed, block-fits, part-pre, summed-none, summed-more, summed-all, pairing-none, one-word}
 use Rattle.output.proofs.pairs.pairing.Reads as pairing
 use Rattle.output.proofs.pairs.pairing.Kinds as pairing-kinds
 use Rattle.output.proofs.pairs.+pairing.Lts-pairing as pairing-lts
-use Rattle.ring.proofs.add.Reads as add-reads
-use Rattle.ring.proofs.mul.Reads as mul-reads
 use Rattle.output.proofs.pairs.+pairing.{statement}
 use Rattle.output.proofs.pairs.+pairing.Tie.{close}
 

@@ -4,11 +4,11 @@ use Prim.Native.Nat.{_-_, _≤_}
 use native.Mathlib.Omega.{arith}
 use borrow.Author.Needs.{needs}
 use lib.ListN.{length}
-use Rattle.sheet.specs.Format.{decode}
-use Rattle.sheet.specs.Check.{rank, placed, firstRefusal}
+use Rattle.refusals.specs.declared.Refusal.the-variants.{Ending}
+use Rattle.refusals.specs.declared.Verdict.the-variants.{Refused}
+use Rattle.sheet_format.specs.Format.{decode, rank}
+use Rattle.sheet.specs.Check.{placed, firstRefusal}
 use Rattle.sheet.specs.Steps.{judged}
-use Rattle.sheet.specs.declared.Refusal.the-variants.{Ending}
-use Rattle.sheet.specs.declared.Verdict.the-variants.{Refused}
 use Rattle.sheet.proofs.CheckFrom.{checkFrom, follow, from-start, from-end, step, on-within}
 use Rattle.sheet.proofs.checks.commands.Statement.{statement}
 use Rattle.sheet.proofs.checks.commands.Tie as tie

@@ -3,7 +3,7 @@ use mathlib.Core.Path.{ap}
 use mathlib.Core.Bool.{not}
 use native.Mathlib.Omega.{arith}
 use borrow.Author.Needs.{needs}
-use Rattle.perms.proofs.Test.{same-yes, same-no}
+use Rattle.lists.proofs.Test.{same-yes, same-no}
 use Rattle.sheet.specs.Check.{inOrder}
 use Rattle.sheet.proofs.Tests.{same-test}
 use Rattle.sheet.proofs.checks.in_order.Statement.{statement}

@@ -1,8 +1,8 @@
 -- The tests are the specification's.
 use mathlib.Core.Path.{ap, _∙_}
 use mathlib.Core.Bool.{not}
-use Rattle.perms.specs.Lists.{same}
-use Rattle.perms.proofs.Test.{same-yes, same-no}
+use Rattle.lists.specs.Lists.{same}
+use Rattle.lists.proofs.Test.{same-yes, same-no}
 use Rattle.sheet.proofs.Tests.{or-on, or-off, at-most}
 use Rattle.sheet.proofs.checks.is_letter.Statement.{statement}
 use Rattle.sheet.proofs.checks.is_letter.Tie as tie

@@ -4,7 +4,7 @@ use mathlib.Core.Bool.{true}
 use native.Mathlib.Omega.{arith}
 use borrow.Author.Needs.{needs}
 use borrow.Author.Tests.{not-true}
-use Rattle.perms.proofs.Test.{less-yes, less-no, not-false}
+use Rattle.lists.proofs.Test.{less-yes, less-no, not-false}
 use Rattle.sheet.specs.Check.{inOrder, inRange, isEnd}
 use Rattle.sheet.specs.Steps.{judgedCommand}
 use Rattle.sheet.proofs.checks.judge_command.Statement.{statement}

@@ -1,11 +1,12 @@
 -- Each arm is the specification's line for its command.
 use mathlib.Core.Path.{refl, ap, _∙_}
+use native.Mathlib.Omega.{arith}
 use borrow.Author.Needs.{needs}
-use Rattle.perms.specs.Lists.{same, less}
-use Rattle.perms.proofs.Test.{less-yes, less-no}
+use Rattle.lists.specs.Lists.{same, less}
+use Rattle.lists.proofs.Test.{less-yes, less-no}
+use Rattle.ranks.proofs.Sizes.{size-is}
 use Rattle.sheet.specs.Check.{isRegister, operandsInRange}
 use Rattle.sheet.proofs.Tests.{and-on, and-off}
-use Rattle.sheet.proofs.InRange.{sized}
 use Rattle.sheet.proofs.checks.operands_in_range.Statement.{statement}
 use Rattle.sheet.proofs.checks.operands_in_range.Tie as tie
 
@@ -25,7 +26,7 @@ set : tie.Need-returns-4
 unfolding operandsInRange isRegister less
 set c = let start = c .before .before .before .before .before in
     rw (c .before .before .before .command3 .given .1)
-    (ap (less _) (c .size .ensures ∙ sized (start .args .m) (start .pre)) ∙ and-on _ (less-yes (c .before .if1 .taken)))
+    (ap (less _) (c .size .ensures ∙ size-is (start .args .m) (omega arith)) ∙ and-on _ (less-yes (c .before .if1 .taken)))
 
 set-not : tie.Need-returns-5
 unfolding operandsInRange isRegister less

@@ -2,8 +2,8 @@
 use mathlib.Core.Path.{_≡_, sym, _∙_}
 use mathlib.Core.Logic.{⊎-elim}
 use mathlib.Core.Bool.{_&&_}
-use Rattle.perms.specs.Lists.{less}
-use Rattle.perms.proofs.Test.{less-yes, less-no}
+use Rattle.lists.specs.Lists.{less}
+use Rattle.lists.proofs.Test.{less-yes, less-no}
 use Rattle.sheet.specs.Check.{isRegister}
 use Rattle.sheet.proofs.Tests.{and-on, and-off}
 use Rattle.sheet.proofs.checks.three_registers.Statement.{statement}

@@ -1,6 +1,6 @@
 -- The tests in a row are the specification's.
-use Rattle.perms.specs.Lists.{less}
-use Rattle.perms.proofs.Test.{less-yes, less-no}
+use Rattle.lists.specs.Lists.{less}
+use Rattle.lists.proofs.Test.{less-yes, less-no}
 use Rattle.sheet.specs.Check.{isRegister}
 use Rattle.sheet.proofs.Tests.{and-on, and-off}
 use Rattle.sheet.proofs.checks.two_registers.Statement.{statement}

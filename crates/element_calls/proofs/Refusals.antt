@@ -1,0 +1,72 @@
+-- A call that is refused counts 0 and leaves every lent slice as it was, and a place is at most 4,096: the record `Refusals`. Rests on refusals'
+-- Verdicts and Ended.
+use mathlib.Core.Path.{refl}
+use mathlib.Core.Bool.{not}
+use mathlib.Core.List.{List}
+use Prim.Native.Nat.{ℕ}
+use native.Mathlib.Omega.{arith}
+use lib.ListN.{length}
+use Rattle.lists.specs.Lists.{same, less}
+use Rattle.lists.proofs.Test.{less-true, less-false}
+use Rattle.refusals.specs.Refusals.{_then_, unless, accepted, refused, answerReport, Keeps}
+use Rattle.refusals.specs.declared.Refusal.the-variants as R
+use Rattle.refusals.specs.declared.Verdict.{Verdict}
+use Rattle.refusals.proofs.Verdicts.{accepts-unless, Near, near-then, near-unless}
+use Rattle.refusals.proofs.Ended.{ended-keeps}
+use Rattle.ranks.specs.Ranks.{size, scratchSize}
+use Rattle.element_calls.specs.Calls.{rankVerdict, sizeVerdict, scratchVerdict, firstBadLetter, wordVerdict, write, sumCall, scaleCall, actWordCall, productCall}
+use Rattle.element_calls.specs.Claims.{Refusals}
+
+rank-near : (m : ℕ) → Near (rankVerdict m)
+unfolding rankVerdict
+rank-near m = near-unless (less 6 m) R.Rank (λ t. omega arith)
+
+size-near : (m n : ℕ) → Near (sizeVerdict m n)
+unfolding sizeVerdict
+size-near m n = near-unless (not (same n (size m))) R.Size (λ t. omega arith)
+
+scratch-near : (m n : ℕ) → Near (scratchVerdict m n)
+unfolding scratchVerdict
+scratch-near m n = near-unless (less n (scratchSize m)) R.Scratch (λ t. omega arith)
+
+word-near : (m : ℕ) (x : List ℕ) → Near (wordVerdict m x)
+unfolding wordVerdict
+word-near m x =
+    near-then (unless (less 4096 n) R.Word) (unless (less bad n) (R.Letter bad)) (near-unless (less 4096 n) R.Word (λ t. omega arith)) (λ e.
+    let few = less-false 4096 n (accepts-unless (less 4096 n) R.Word e) in
+    near-unless (less bad n) (R.Letter bad) (λ t. omega (arith, less-true bad n t, few)))
+  where
+    n : ℕ
+    n = length x
+
+    bad : ℕ
+    bad = firstBadLetter m x
+
+-- one check more
+more : (a b : Verdict) → Near a → Near b → Near (a then b)
+more a b h k = near-then a b h (λ e. k)
+
+one-near : (m a : ℕ) → Near (rankVerdict m then sizeVerdict m a)
+one-near m a = more (rankVerdict m) (sizeVerdict m a) (rank-near m) (size-near m a)
+
+two-near : (m a b : ℕ) → Near (rankVerdict m then sizeVerdict m a then sizeVerdict m b)
+two-near m a b = more (rankVerdict m then sizeVerdict m a) (sizeVerdict m b) (one-near m a) (size-near m b)
+
+three-near : (m a b c : ℕ) → Near (rankVerdict m then sizeVerdict m a then sizeVerdict m b then sizeVerdict m c)
+three-near m a b c = more (rankVerdict m then sizeVerdict m a then sizeVerdict m b) (sizeVerdict m c) (two-near m a b) (size-near m c)
+
+write-keeps : {A : Type 0} (v : Verdict) (old new : A) (n : ℕ) → Near v → Keeps (answerReport (write v old new n .answer)) old (write v old new n .lent)
+write-keeps v old new n h = ended-keeps answerReport v refused (accepted n) n old new (λ why. refl) refl h
+
+pub refusals : Refusals
+unfolding sumCall scaleCall actWordCall productCall
+refusals = record {
+  sum = λ m h g result. write-keeps _ _ _ _ (three-near m (length h) (length g) (length result));
+  scale = λ m c h result. write-keeps _ _ _ _ (two-near m (length h) (length result));
+  act-word = λ m q x h.
+      write-keeps _ _ _ _ (more (rankVerdict m then sizeVerdict m (length h)) (wordVerdict m x) (one-near m (length h)) (word-near m x));
+  product = λ m q h g result scratch.
+      let three = rankVerdict m then sizeVerdict m (length h) then sizeVerdict m (length g) then sizeVerdict m (length result) in
+      write-keeps _ _ _ _
+      (more three (scratchVerdict m (length scratch)) (three-near m (length h) (length g) (length result)) (scratch-near m (length scratch)));
+}

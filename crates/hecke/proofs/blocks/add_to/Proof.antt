@@ -1,0 +1,43 @@
+-- The loop writes the words of the sum. Word i of d is still as it was when the sum of its words i is made.
+use mathlib.Core.Path.{_≡_, refl}
+use Prim.Native.Nat.{ℕ, _-_, _≤_}
+use native.Mathlib.Omega.{arith}
+use borrow.Author.Needs.{needs}
+use lib.ListN.{length}
+use Rattle.ring.specs.Modular.{words}
+use Rattle.lists.proofs.Fill.{filled-none, filled-more}
+use Rattle.algebra.specs.Element.{plus}
+use Rattle.algebra.proofs.Lists.{plus-length}
+use Rattle.word_lists.proofs.Loops.{Written, written-all, plus-next}
+use Rattle.hecke.proofs.blocks.add_to.Statement.{statement}
+use Rattle.hecke.proofs.blocks.add_to.Tie as tie
+
+abbrev Inv-loop : tie.InvT-loop
+Inv-loop d₀ s i₀ i-end d i = (i ≤ i-end) × (i-end ≡ length s) × Written (plus ℕ words d₀ s) d₀ d i
+
+abbrev μ-loop : tie.MeasureT-loop
+μ-loop d₀ s i₀ i-end d i = i-end - i
+
+loop-holds : tie.Need-loop-holds Inv-loop μ-loop
+loop-holds c = (omega arith, refl, filled-none _ _)
+
+loop-again : tie.Need-loop-again Inv-loop μ-loop
+loop-again c = let at = c .before .before .before .before in let start = at .before .before .before in let u = start .args in let h = at .loop .inv .2 in (
+  omega arith,
+  refl,
+  filled-more _ h (omega arith)
+      (plus-next (u .d .now) (u .s .now) (at .loop .i) (c .add .ensures) (h .rest (at .loop .i) (omega arith)) refl (omega arith) (start .pre)),
+)
+
+same-length : tie.Need-same-length Inv-loop μ-loop
+same-length c = c .before .loop .inv .2 .same
+
+returns : tie.Need-returns Inv-loop μ-loop
+returns c = let start = c .before .before .before .before in
+    written-all _ (c .before .loop .inv .2) (omega arith) (plus-length ℕ words (start .args .d .now) (start .args .s .now) (start .pre))
+
+pub add-to-spec : {M : Type 1} → statement M
+add-to-spec =
+    tie.close
+    (tie.spec Inv-loop μ-loop loop-holds (λ c. omega arith) (λ c. omega arith) (λ c. omega arith) (λ c. omega arith) (λ c κs. search needs)
+    (λ c. omega arith) (λ c. omega arith) (λ c. omega arith) (λ c. omega arith) loop-again same-length returns)

@@ -1,0 +1,54 @@
+-- The loop writes the words of both blocks, from the end; when it reads words i of both, they are still as they were.
+use mathlib.Core.Path.{_≡_, sym, _∙_}
+use Prim.Native.Nat.{ℕ, _-_, _≤_}
+use native.Mathlib.Omega.{arith}
+use borrow.Author.Needs.{needs}
+use lib.ListN.{length, take, drop, length-set}
+use Rattle.ring.specs.Modular.{words}
+use Rattle.algebra.specs.Element.{plus, scale}
+use Rattle.algebra.proofs.Lists.{plus-length, scale-length}
+use Rattle.word_lists.proofs.Loops.{plus-next, scale-next}
+use Rattle.hecke.proofs.Exchange.{Exchanged, low-size, high-size, exchanged-none, exchanged-more, exchanged-low, exchanged-high, exchanged-all}
+use Rattle.hecke.proofs.blocks.exchange.Statement.{statement}
+use Rattle.hecke.proofs.blocks.exchange.Tie as tie
+
+abbrev Inv-loop : tie.InvT-loop
+Inv-loop x₀ b q r i₀ x i = (i ≤ b)
+    × Exchanged b (scale ℕ words q (drop b x₀)) (plus ℕ words (take b x₀) (scale ℕ words r (drop b x₀))) x₀ x i
+
+abbrev μ-loop : tie.MeasureT-loop
+μ-loop x₀ b q r i₀ x i = i
+
+loop-holds : tie.Need-loop-holds Inv-loop μ-loop
+loop-holds c = (omega arith, exchanged-none _ _ _ _ (c .before .pre))
+
+slice-write-x-2 : tie.Need-slice-write-x-2 Inv-loop μ-loop
+slice-write-x-2 c = let at = c .before .before .before .before .before .before in
+    omega (arith, length-set (at .loop .x) (at .loop .i - 1) (c .before .before .mul .result), at .loop .inv .1 .same)
+
+loop-again : tie.Need-loop-again Inv-loop μ-loop
+loop-again c = let at = c .before .before .before .before .before .before in let start = at .before .before in let u = start .args in
+    let j = at .loop .i - 1 in let h = at .loop .inv .1 in let s = take (u .b) (u .x .now) in let t = drop (u .b) (u .x .now) in
+    let low = low-size (u .b) (u .x .now) (start .pre) in let high = high-size (u .b) (u .x .now) (start .pre) in
+    let first = scale-next (u .q) t j (c .before .before .mul .ensures) (exchanged-high j h (omega arith)) (omega (arith, high)) in
+    let multiple = scale-next (u .r) t j (c .before .mul2 .ensures) (exchanged-high j h (omega arith)) (omega (arith, high)) in
+    let same = low ∙ sym (scale-length ℕ words (u .r) t ∙ high) in
+    let second = plus-next s (scale ℕ words (u .r) t) j (c .add .ensures) (exchanged-low j h (omega arith) (omega arith)) multiple (omega (arith, low)) same in
+    (omega arith, exchanged-more j _ _ h (start .pre) (omega arith) (omega arith) first second)
+
+same-length : tie.Need-same-length Inv-loop μ-loop
+same-length c = c .before .loop .inv .1 .same
+
+returns : tie.Need-returns Inv-loop μ-loop
+returns c = let start = c .before .before .before in let u = start .args in let s = take (u .b) (u .x .now) in let t = drop (u .b) (u .x .now) in
+    let low = low-size (u .b) (u .x .now) (start .pre) in let high = high-size (u .b) (u .x .now) (start .pre) in
+    let multiple : (k : ℕ) → length (scale ℕ words k t) ≡ u .b = λ k. scale-length ℕ words k t ∙ high in
+    exchanged-all (c .before .loop .inv .1) (start .pre) (omega arith) (multiple (u .q))
+    (plus-length ℕ words s (scale ℕ words (u .r) t) (low ∙ sym (multiple (u .r))) ∙ low)
+
+pub exchange-spec : {M : Type 1} → statement M
+exchange-spec =
+    tie.close
+    (tie.spec Inv-loop μ-loop loop-holds (λ c. omega arith) (λ c. omega arith) (λ c. omega arith) (λ c. omega arith) (λ c. omega arith) (λ c. omega arith)
+    (λ c κs. search needs) (λ c. omega arith) (λ c. omega arith) (λ c κs. search needs) (λ c κs. search needs) (λ c. omega arith)
+    (λ c. omega arith) slice-write-x-2 (λ c. omega arith) loop-again same-length returns)

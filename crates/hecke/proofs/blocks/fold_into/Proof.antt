@@ -1,0 +1,47 @@
+-- The loop writes the words of the sum. Word i of d is still as it was when its multiple is made.
+use mathlib.Core.Path.{_≡_, refl, sym, _∙_}
+use Prim.Native.Nat.{ℕ, _-_, _≤_}
+use native.Mathlib.Omega.{arith}
+use borrow.Author.Needs.{needs}
+use lib.ListN.{length}
+use Rattle.ring.specs.Modular.{words}
+use Rattle.lists.proofs.Fill.{filled-none, filled-more}
+use Rattle.algebra.specs.Element.{plus, scale}
+use Rattle.algebra.proofs.Lists.{plus-length, scale-length}
+use Rattle.word_lists.proofs.Loops.{Written, written-all, plus-next, scale-next}
+use Rattle.hecke.proofs.blocks.fold_into.Statement.{statement}
+use Rattle.hecke.proofs.blocks.fold_into.Tie as tie
+
+abbrev Inv-loop : tie.InvT-loop
+Inv-loop d₀ r s i₀ i-end d i = (i ≤ i-end) × (i-end ≡ length s) × Written (plus ℕ words s (scale ℕ words r d₀)) d₀ d i
+
+abbrev μ-loop : tie.MeasureT-loop
+μ-loop d₀ r s i₀ i-end d i = i-end - i
+
+loop-holds : tie.Need-loop-holds Inv-loop μ-loop
+loop-holds c = (omega arith, refl, filled-none _ _)
+
+loop-again : tie.Need-loop-again Inv-loop μ-loop
+loop-again c = let at = c .before .before .before .before .before in let start = at .before .before .before in let u = start .args in let i = at .loop .i in
+    let h = at .loop .inv .2 in
+    let multiple = scale-next (u .r) (u .d .now) i (c .before .mul .ensures) (h .rest i (omega arith)) (omega arith) in (
+      omega arith,
+      refl,
+      filled-more _ h (omega arith)
+          (plus-next (u .s .now) (scale ℕ words (u .r) (u .d .now)) i (c .add .ensures) refl multiple (omega arith)
+          (sym (scale-length ℕ words (u .r) (u .d .now) ∙ start .pre))),
+    )
+
+same-length : tie.Need-same-length Inv-loop μ-loop
+same-length c = c .before .loop .inv .2 .same
+
+returns : tie.Need-returns Inv-loop μ-loop
+returns c = let start = c .before .before .before .before in let u = start .args in
+    let e = sym (scale-length ℕ words (u .r) (u .d .now) ∙ start .pre) in
+    written-all _ (c .before .loop .inv .2) (omega arith) (plus-length ℕ words (u .s .now) (scale ℕ words (u .r) (u .d .now)) e ∙ sym (start .pre))
+
+pub fold-into-spec : {M : Type 1} → statement M
+fold-into-spec =
+    tie.close
+    (tie.spec Inv-loop μ-loop loop-holds (λ c. omega arith) (λ c. omega arith) (λ c. omega arith) (λ c. omega arith) (λ c κs. search needs)
+    (λ c κs. search needs) (λ c. omega arith) (λ c. omega arith) (λ c. omega arith) (λ c. omega arith) loop-again same-length returns)

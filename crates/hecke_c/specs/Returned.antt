@@ -1,0 +1,32 @@
+-- What a call for C and Rust gives back: one word, what is lent to it, and words at the front of a lent answer.
+--
+--   wordOf r              0 where nothing is refused, else the refusal's number plus 256 times its place
+--   fill xs answer        the words xs at the front of a list, as many as it has room for
+--   told r xs answer      the answer: with the words xs at its front if nothing is refused, and else as it was
+--   Returned A            the word, and what is lent, as the call leaves it
+--   Answered A            the same with the answer
+use mathlib.Core.Bool.{cond}
+use mathlib.Core.List.{List, [], _∷_}
+use Prim.Native.Nat.{ℕ, _+_, _*_}
+use Rattle.lists.specs.Lists.{same}
+use Rattle.refusals.specs.Refusals.{Report}
+
+unfoldable pub wordOf : Report → ℕ
+wordOf r = r .number + 256 * r .place
+
+unfoldable pub fill : List ℕ → List ℕ → List ℕ
+fill [] answer = answer
+fill (x ∷ xs) [] = []
+fill (x ∷ xs) (old ∷ answer) = x ∷ fill xs answer
+
+unfoldable pub told : Report → List ℕ → List ℕ → List ℕ
+told r xs answer = cond (same (r .number) 0) (fill xs answer) answer
+
+pub record Returned (A : Type 0) : Type 0 where
+  pub word : ℕ
+  pub lent : A
+
+pub record Answered (A : Type 0) : Type 0 where
+  pub word : ℕ
+  pub lent : A
+  pub answer : List ℕ

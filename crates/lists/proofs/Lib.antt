@@ -1,0 +1,16 @@
+-- tests, searches and counts
+pub mod Test
+pub mod Equal
+pub mod All
+pub mod First
+pub mod Tally
+pub mod Range
+pub mod Series
+-- parts of lists
+pub mod Blocks
+pub mod Parts
+pub mod Overwrite
+-- loops
+pub mod Fill
+pub mod Prefix
+pub mod Passed

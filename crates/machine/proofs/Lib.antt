@@ -1,0 +1,5 @@
+pub mod Put
+mod Unit
+mod Taken
+pub mod Costs
+pub mod Called

@@ -1,0 +1,12 @@
+-- The words from 720 r on are copied. Rests on word_lists' Into.
+use mathlib.Core.Path.{_∙_}
+use borrow.Author.Needs.{needs}
+use Rattle.word_lists.proofs.Into.{load-into}
+use Rattle.machine.proofs.registers.load.Statement.{statement}
+use Rattle.machine.proofs.registers.load.Tie as tie
+
+returns : tie.Need-returns
+returns c = c .before .before .load .ensures ∙ load-into _ _ _ (c .before .before .before .before .before .before .pre .0)
+
+pub load-spec : {M : Type 1} → statement M
+load-spec = tie.close (tie.spec (λ c. search needs) (λ c κs. search needs) (λ c. search needs) returns)

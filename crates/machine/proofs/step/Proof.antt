@@ -1,0 +1,36 @@
+-- Each return is one of the tests, in their order.
+use mathlib.Core.Path.{_≡_, refl, sym, _∙_}
+use mathlib.Core.Bool.{true, and-false}
+use native.Mathlib.Omega.{arith}
+use borrow.Author.Needs.{needs}
+use borrow.Author.Tests.{not-true}
+use lib.ListN.{length}
+use Rattle.lists.proofs.Test.{same-yes, same-no, not-false}
+use Rattle.sheet.specs.Check.{inRange}
+use Rattle.machine.specs.Step.{stepCall}
+use Rattle.machine.specs.declared.Answer.the-variants.{Obeyed}
+use Rattle.machine.proofs.step.Statement.{statement}
+use Rattle.machine.proofs.step.Tie as tie
+
+ranged : (c : tie.Else2) → let start = c .before .before .before .before .args in inRange (start .m) (start .command) ≡ true
+ranged c = sym (c .before .in-range .ensures) ∙ not-false _ (c .if2 .left)
+
+returns : tie.Need-returns
+unfolding stepCall
+returns c = rw (same-no {x = length (c .before .before .args .x .now)} {a = 2880} (λ e. omega arith), and-false) refl
+
+returns-2 : tie.Need-returns-2
+unfolding stepCall
+returns-2 c = rw (sym (c .before .in-range .ensures) ∙ not-true _ (c .if2 .taken)) refl
+
+obey-requires : tie.Need-obey-requires
+obey-requires c κs = (omega arith, ranged (c .before))
+
+returns-3 : tie.Need-returns-3
+unfolding stepCall
+returns-3 c = let done = c .before .before in let e = done .obey .ensures in let start = done .before .before .before .before .before .before in
+    rw (ranged (done .before .before), same-yes {x = length (start .args .x .now)} {a = 2880} (omega arith))
+    (λ i. record { answer = Obeyed (sym (e .1) i); lent = sym (e .0) i })
+
+pub step-spec : {M : Type 1} → statement M
+step-spec = tie.close (tie.spec returns (λ c κs. search needs) returns-2 obey-requires (λ c. search needs) returns-3)

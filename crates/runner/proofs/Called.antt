@@ -1,0 +1,46 @@
+-- The call of a run on lent registers: what its checks find, and what it leaves. Rests on refusals' Ended and lists' Test.
+use mathlib.Core.Path.{_≡_, refl, sym, ap, _∙_}
+use mathlib.Core.Logic.{_≢_}
+use mathlib.Core.List.{List}
+use Prim.Native.Nat.{ℕ}
+use lib.ListN.{length, replicate, length-replicate}
+use Rattle.lists.proofs.Test.{same-yes, same-no}
+use Rattle.refusals.specs.Refusals.{accepted, refused, ended}
+use Rattle.refusals.specs.declared.Refusal.{Refusal}
+use Rattle.refusals.specs.declared.Refusal.the-variants.{Buffer}
+use Rattle.refusals.specs.declared.Verdict.{Verdict}
+use Rattle.refusals.specs.declared.Verdict.the-variants.{Accepted, Refused}
+use Rattle.refusals.specs.declared.Answer.{Answer}
+use Rattle.refusals.proofs.Ended.{ended-refused, ended-done}
+use Rattle.sheet_format.specs.Format.{rank, parameter}
+use Rattle.sheet.specs.Check.{placed, checkSheet}
+use Rattle.runner.specs.Run.{obeyAll, commands, ran, given, runSheet, runVerdict, runCall}
+
+module _ (s x : List ℕ) {a : Answer} where
+  pub sheet-refused : {why : Refusal} → checkSheet s ≡ Refused why → a ≡ refused why → runCall s x ≡ record { answer = a; lent = x }
+  unfolding runCall runVerdict
+  sheet-refused e f = ended-refused refused _ _ _ (rw e refl) f
+
+  pub registers-refused : checkSheet s ≡ Accepted → length x ≢ 2880 → a ≡ refused Buffer → runCall s x ≡ record { answer = a; lent = x }
+  unfolding runCall runVerdict
+  registers-refused e n f = ended-refused refused _ _ _ (rw (e, same-no n) refl) f
+
+  -- the registers were cleared to y, and are now z
+  pub run-done : {n : ℕ} {y z : List ℕ} → checkSheet s ≡ Accepted → length x ≡ 2880 → y ≡ replicate (length x) 0
+      → obeyAll (rank s) (parameter s) (commands (placed s)) (record { words = y; count = 0 }) ≡ record { words = z; count = n } → a ≡ accepted n
+      → runCall s x ≡ record { answer = a; lent = z }
+  unfolding runCall runVerdict
+  run-done e four zeros done f =
+      let m = ap (λ w. obeyAll (rank s) (parameter s) (commands (placed s)) (record { words = w; count = 0 })) (sym (zeros ∙ ap (λ n. replicate n 0) four)) ∙ done in
+      ended-done refused x (rw (e, same-yes four) refl) (f ∙ ap (λ o. accepted (o .count)) (sym m)) (ap (λ o. o .words) (sym m))
+
+-- the call on registers of zeros
+pub run-given : (s : List ℕ) {a : Answer} {y : List ℕ} → runCall s (replicate 2880 0) ≡ record { answer = a; lent = y }
+    → given (a .verdict) (record { words = y; count = a .count }) ≡ runSheet s
+unfolding runCall runVerdict runSheet ended
+run-given s e = ap (λ o. given (o .answer .verdict) (record { words = o .lent; count = o .answer .count })) (sym e) ∙ go (checkSheet s) refl
+  where
+    go : (v : Verdict) → checkSheet s ≡ v → let o = runCall s (replicate 2880 0) in
+        given (o .answer .verdict) (record { words = o .lent; count = o .answer .count }) ≡ given (checkSheet s) (ran (checkSheet s) s)
+    go Accepted e = rw (e, same-yes (length-replicate {A = ℕ} 2880 0)) refl
+    go (Refused why) e = rw e refl

@@ -1,0 +1,6 @@
+-- the bytes of a sheet
+mod Codes
+mod Numbers
+pub mod Offsets
+-- the reader
+mod Held

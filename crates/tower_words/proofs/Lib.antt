@@ -1,0 +1,3 @@
+mod Total
+mod Spell
+mod Bitmask

@@ -1,0 +1,5 @@
+mod Arrays
+mod Scatter
+mod Room
+mod Grow
+mod Judged

@@ -1,0 +1,28 @@
+-- The towers are judged, then the buffer; then the tower of the product is written.
+use borrow.Author.Needs.{needs}
+use Rattle.perm_calls.specs.Calls.{productCall}
+use Rattle.perm_calls.proofs.Verdicts.{towers-accepted}
+use Rattle.towers.proofs.Judged.{fits, refused, done}
+use Rattle.towers.proofs.product.Statement.{statement}
+use Rattle.towers.proofs.product.Tie as tie
+
+returns : tie.Need-returns
+unfolding productCall
+returns c = search (refused, needs)
+
+fill-tower-of-product-requires : tie.Need-fill-tower-of-product-requires
+fill-tower-of-product-requires c κs =
+    let at = c .before .before .before in
+    let good = fits _ _ (at .then .ensures) (at .before .before .towers .ensures) (at .before .exact .ensures) (c .before .enum-told .given .1) in
+    let lists = towers-accepted _ _ (good .0) in
+    search needs
+
+returns-2 : tie.Need-returns-2
+unfolding productCall
+returns-2 c = search (done, needs)
+
+pub product-spec : {M : Type 1} → statement M
+product-spec =
+    tie.close
+    (tie.spec (λ c κs. search needs) (λ c κs. search needs) (λ c κs. search needs) (λ c. search needs) returns (λ c. search needs)
+    fill-tower-of-product-requires (λ c. search needs) returns-2)
