@@ -1,5 +1,5 @@
-"""The stored vectors: inputs and expected outputs of the test programs, the table that `algebra` computes, and the sheets of the
-conformance kit with their texts, made by this program.
+"""The stored vectors: inputs and expected outputs of the test programs, the tables that `perms` and `algebra` compute, and the sheets
+of the conformance kit with their texts, made by this program.
 
     python3 -m reference.vectors            write the files
     python3 -m reference.vectors --check    say which files differ from what is made today or, in the kit, are not made, and fail if
@@ -7,7 +7,7 @@ conformance kit with their texts, made by this program.
 """
 import random
 import sys
-from itertools import chain
+from itertools import chain, permutations as arrangements
 from pathlib import Path
 
 from reference import algebra
@@ -217,11 +217,66 @@ def perms_vectors():
     yield 'crates/perms_vectors/stdout', ''.join(line(*v) for v in vectors).encode()
 
 
-# ---- the algebra
+# ---- tables for the prover
 #
-# The definitions of the crate `algebra` are computed by the prover, so their vectors are a table in its language.
+# The definitions of the crates `perms` and `algebra` are computed by the prover, so their vectors are tables in its language.
 
-VECTORS_HEAD = '''-- Products as the reference program computes them: written by `python3 -m reference.vectors`.
+def numbers(a):
+    return ''.join(f'{x} ∷ ' for x in a) + '[]'
+
+
+def table(name, row, rows):
+    return f'\nabbrev pub {name} : List {row}\n{name} =\n    ' + '\n    ∷ '.join(rows + ['[]']) + '\n'
+
+
+PERMUTATIONS_HEAD = '''-- Permutations as the reference program has them, and what it finds of them: written by `python3 -m reference.vectors`.
+--
+--   vector w t v n x d    w has the tower t, the inverse v, the length n, the standard word x, and a descent set with the mask d
+--   pair u v w            the product of u and v is w
+use mathlib.Core.List.{List, [], _∷_}
+use Prim.Native.Nat.{ℕ}
+
+pub record Vector : Type 0 where
+  pub images : List ℕ
+  pub tower : List ℕ
+  pub inverse : List ℕ
+  pub length : ℕ
+  pub word : List ℕ
+  pub descents : ℕ
+
+abbrev vector : List ℕ → List ℕ → List ℕ → ℕ → List ℕ → ℕ → Vector
+vector w t v n x d = record { images = w; tower = t; inverse = v; length = n; word = x; descents = d }
+
+pub record Pair : Type 0 where
+  pub left : List ℕ
+  pub right : List ℕ
+  pub product : List ℕ
+
+abbrev pair : List ℕ → List ℕ → List ℕ → Pair
+pair u v w = record { left = u; right = v; product = w }
+'''
+
+
+def permutation_vector(w):
+    t = p.tower(w)
+    mask = sum(2 ** (i - 1) for i in p.descents(w))
+    return f'vector ({numbers(w)}) ({numbers(t)}) ({numbers(p.inverse(w))}) {p.length(w)} ({numbers(p.standard_word(t))}) {mask}'
+
+
+def permutation_tables():
+    """All permutations of ranks 0 to 2, five of rank 3 and four of rank 4, and document 01's longer example; and products of two
+    that follow one another, and of the example and its inverse."""
+    source = random.Random(0)
+    ranks = [list(map(list, arrangements(p.identity(m)))) for m in range(5)]
+    ranks[3:] = source.sample(ranks[3], 5), source.sample(ranks[4], 4)
+    ranks.append([EXAMPLE])
+    pairs = [pair for rank in ranks for pair in zip(rank, rank[1:])] + [(EXAMPLE, EXAMPLE), (EXAMPLE, p.inverse(EXAMPLE))]
+    vectors = table('vectors', 'Vector', [permutation_vector(w) for rank in ranks for w in rank])
+    products = table('pairs', 'Pair', [f'pair ({numbers(u)}) ({numbers(v)}) ({numbers(p.product(u, v))})' for u, v in pairs])
+    yield 'crates/perms/proofs/Vectors.antt', (PERMUTATIONS_HEAD + vectors + products).encode()
+
+
+PRODUCTS_HEAD = '''-- Products as the reference program computes them: written by `python3 -m reference.vectors`.
 --
 --   vector m l q h g k n    h of rank m times g of rank l is k, and takes n ring operations
 use mathlib.Core.List.{List, [], _∷_}
@@ -229,14 +284,7 @@ use Prim.Native.Nat.{ℕ}
 
 pub data Vector : Type 0 where
   vector : ℕ → ℕ → ℕ → List ℕ → List ℕ → List ℕ → ℕ → Vector
-
-abbrev pub vectors : List Vector
-vectors =
 '''
-
-
-def numbers(a):
-    return ''.join(f'{x} ∷ ' for x in a) + '[]'
 
 
 def product_vector(source, m, l, q):
@@ -252,15 +300,15 @@ def algebra_vectors():
     source = random.Random(0)
     rows = [product_vector(source, m, l, q) for m in range(3) for l in range(m + 1) for q in (0, 1, 2, 3, 10, WORD - 1)]
     rows.append(product_vector(source, 3, 3, 3))
-    table = '    ' + '\n    ∷ '.join(rows + ['[]']) + '\n'
-    yield 'crates/algebra/proofs/Vectors.antt', (VECTORS_HEAD + table).encode()
+    yield 'crates/algebra/proofs/Vectors.antt', (PRODUCTS_HEAD + table('vectors', 'Vector', rows)).encode()
 
 
 def main(arguments):
     if arguments not in ([], ['--check']):
         sys.exit(__doc__)
     made, stale = [], []
-    for name, contents in chain(ring_vectors(), perms_vectors(), algebra_vectors(), hecke_vectors(), sheet_vectors(), conformance_kit()):
+    for name, contents in chain(ring_vectors(), perms_vectors(), permutation_tables(), algebra_vectors(), hecke_vectors(), sheet_vectors(),
+                                conformance_kit()):
         path = ROOT / name
         made.append(name)
         if not arguments:

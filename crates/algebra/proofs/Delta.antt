@@ -12,7 +12,8 @@ use Rattle.ring.specs.Ring.{Ops, Ring}
 use Rattle.ring.specs.Sum.{sum}
 use Rattle.ring.proofs.Ring.{mul-one, mul-zero}
 use Rattle.ring.proofs.Sum.{sum-single}
-use Rattle.lists.proofs.Equal.{equal, equal-iff, equal-self, equal-no}
+use Rattle.lists.specs.Lists.{equal}
+use Rattle.lists.proofs.Equal.{equal-iff, equal-self, equal-no}
 use Rattle.perms.specs.Permutation.{Perm}
 use Rattle.algebra.specs.Place.{place, perms}
 use Rattle.algebra.proofs.Places.{length-perms, place-at, map-at-place}

@@ -76,7 +76,7 @@ module _ (A : Type 0) (o : Ops A) (q r : A) (m : ℕ) (𝓡 : Ring A o) where
     quadratic = λ i l. equal-elements A o (then (t l) l) (r ⊙ t l ⊕ q ⊙ 𝟏) (quadratic A o q r m 𝓡 δ₁ l);
     braid = λ i a b. equal-elements A o (then (then (t a) b) a) (then (then (t b) a) b) (braid A o q r m 𝓡 δ₁ a b);
     commute = λ i j a b d. equal-elements A o (then (t a) b) (then (t b) a) (commuting A o q r m 𝓡 δ₁ a b d);
-    alike = λ w x y s t h a. acts s a ∙ sym (acts t a);
+    alike = λ w x y s t h a. acts s a ∙ sym (acts (search (arith, t)) a);
     acts = λ w x s h a. acts s a;
   }
     where

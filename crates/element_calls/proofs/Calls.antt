@@ -4,7 +4,7 @@ use mathlib.Core.List.{List}
 use Prim.Native.Nat.{ℕ, _^_, _<_}
 use native.Mathlib.Omega.{arith}
 use Rattle.ring.specs.Modular.{words}
-use Rattle.refusals.specs.Refusals.{accepted, refused, ended}
+use Rattle.refusals.specs.Refusals.{accepted, ended}
 use Rattle.refusals.specs.declared.Verdict.{Verdict}
 use Rattle.refusals.specs.declared.Verdict.the-variants.{Accepted, Refused}
 use Rattle.refusals.specs.declared.Answer.{Answer}
@@ -19,7 +19,7 @@ use Rattle.element_calls.specs.Calls.{write}
 module _ {A : Type 0} where
   pub write-done : {v : Verdict} {k : ℕ} {a : Answer} (old new last : A) (n : ℕ) → v ≡ Accepted → last ≡ new → k ≡ n → a ≡ accepted k
       → write v old new n ≡ record { answer = a; lent = last }
-  write-done old new last n e d g f = ended-done refused old e (f ∙ ap accepted g) d
+  write-done old new last n e d g f = ended-done _ old e (f ∙ ap accepted g) d
 
   pub write-verdict : (v : Verdict) (old new : A) (n : ℕ) → write v old new n .answer .verdict ≡ v
   unfolding ended

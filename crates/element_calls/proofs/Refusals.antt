@@ -8,7 +8,7 @@ use native.Mathlib.Omega.{arith}
 use lib.ListN.{length}
 use Rattle.lists.specs.Lists.{same, less}
 use Rattle.lists.proofs.Test.{less-true, less-false}
-use Rattle.refusals.specs.Refusals.{_then_, unless, accepted, refused, answerReport, Keeps}
+use Rattle.refusals.specs.Refusals.{_then_, unless, accepted, answerReport, Keeps}
 use Rattle.refusals.specs.declared.Refusal.the-variants as R
 use Rattle.refusals.specs.declared.Verdict.{Verdict}
 use Rattle.refusals.proofs.Verdicts.{accepts-unless, Near, near-then, near-unless}
@@ -56,7 +56,7 @@ three-near : (m a b c : ℕ) → Near (rankVerdict m then sizeVerdict m a then s
 three-near m a b c = more (rankVerdict m then sizeVerdict m a then sizeVerdict m b) (sizeVerdict m c) (two-near m a b) (size-near m c)
 
 write-keeps : {A : Type 0} (v : Verdict) (old new : A) (n : ℕ) → Near v → Keeps (answerReport (write v old new n .answer)) old (write v old new n .lent)
-write-keeps v old new n h = ended-keeps answerReport v refused (accepted n) n old new (λ why. refl) refl h
+write-keeps v old new n h = ended-keeps answerReport v _ (accepted n) n old new (λ why. refl) refl h
 
 pub refusals : Refusals
 unfolding sumCall scaleCall actWordCall productCall

@@ -5,7 +5,7 @@ ghost use Rattle.element_calls.specs.Calls.{rankVerdict, sizeVerdict, sc
 use refusals::Refusal;
 use refusals::Verdict;
 
-// Check 1.
+// Check 1, on the rank.
 // Example: 7 is refused.
 pub fn rank(m: usize) -> Verdict
     ensures { λ r. ⌜ r ≡ rankVerdict m ⌝ }
@@ -51,7 +51,7 @@ fn first_bad_letter(word: &[u8], m: usize) -> usize
     n
 }
 
-// Check 4.
+// Check 4, on a word.
 // Example: of rank 1, the word 1 2 is refused for its second letter.
 pub fn word(m: usize, word: &[u8]) -> Verdict
     ensures { λ r. ⌜ r ≡ wordVerdict m (now (word .entry)) ⌝ }

@@ -1,4 +1,4 @@
--- A loop that writes two lists of b words at once, from the end: word i of s at index i, and word i of t at index b + i. Rests on Loops.
+-- A loop that writes two lists of b words at once, from the end: word i of s at index i, and word i of t at index b + i. Rests on word_lists' Loops.
 --
 --   Exchanged b s t x₀ x i   the words from i on of both halves of x are those of s and of t, and the others as they were in x₀
 use mathlib.Core.Path.{_≡_, refl, sym, ap, subst, _∙_}

@@ -1,5 +1,5 @@
--- The call of a product that passes its checks: the product by the definition, its count, and zeros in the scratch. Rests on element_calls'
--- Sizes, Verdicts and Calls, and algebra's Modular.
+-- The call of a product that passes its checks: the product by the definition, its count, and zeros in the scratch. Rests on ranks' Sizes,
+-- element_calls' Verdicts and Calls, and algebra's Modular.
 use mathlib.Core.Path.{_≡_, sym, ap, _∙_}
 use mathlib.Core.List.{List, _++_}
 use Prim.Native.Nat.{ℕ, suc, _-_, _^_, _≤_, _<_}

@@ -8,9 +8,10 @@ use lib.ListN.{length, set}
 use Rattle.lists.proofs.Test.{same-yes, same-no}
 use Rattle.refusals.specs.Refusals.{refusalNumber, refusalPlace, Report, reported}
 use Rattle.refusals.specs.declared.Refusal.{Refusal}
+use Rattle.refusals.specs.declared.Verdict.{Verdict}
 use Rattle.refusals.specs.declared.Verdict.the-variants.{Accepted, Refused}
 use Rattle.refusals.proofs.Verdicts.{number-within}
-use Rattle.hecke_c.specs.Returned.{wordOf, fill, told}
+use Rattle.hecke_c.specs.Returned.{wordOf, fill, told, Tells}
 
 -- ---- words at the front of an answer
 
@@ -29,6 +30,13 @@ unfolding fill
 fill-two a b [] = refl
 fill-two a b (x ∷ []) = refl
 fill-two a b (x ∷ y ∷ r) = refl
+
+-- ---- the word
+
+pub tells : (v : Verdict) (n : ℕ) → Tells (reported v n)
+unfolding wordOf
+tells Accepted n = record { number = omega arith; place = omega arith }
+tells (Refused why) n = let few = number-within why in record { number = omega (arith, few); place = omega (arith, few) }
 
 -- ---- what is told
 

@@ -2,6 +2,7 @@
 --
 --   verdictCall o                 what a call gives that answers with a verdict and ends as o
 --   countedCall o, answerCall o   the same of a call that answers a number, and of one that counts ring operations
+--   towerOfImages, .., runSheet   the calls hecke_tower_of_images to hecke_run_sheet, in the order of include/hecke.h
 use mathlib.Core.List.{List, [], _∷_}
 use Prim.Native.Nat.{ℕ}
 use Rattle.refusals.specs.Refusals.{verdictReport, answerReport, Outcome}

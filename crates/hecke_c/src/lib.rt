@@ -161,8 +161,8 @@ pub extern "C" fn hecke_product(
 pub extern "C" fn hecke_sheet_check(sheet: &[u8]) -> u64
     ensures { λ w. ⌜ w ≡ sheetCheck (now (sheet .entry)) ⌝ }
 {
-    let verdict = sheet::check(sheet);
-    returned::verdict(verdict)
+    let checked = sheet::check(sheet);
+    returned::verdict(checked)
 }
 
 // The run of a whole sheet on lent registers, 4 x 720 words; the answer is its count.
@@ -172,9 +172,9 @@ pub extern "C" fn hecke_run_sheet(sheet: &[u8], registers: &mut [u64], answer: &
     ensures { λ w. ⌜ runSheet (now (sheet .entry)) (now (registers .entry)) (now (answer .entry))
         ≡ record { word = w; lent = now (registers .exit); answer = now (answer .exit) } ⌝ }
 {
-    let done = runner::run_into(sheet, registers);
-    let verdict = done.verdict;
-    returned::answered(verdict, done.count, answer)
+    let ran = runner::run_into(sheet, registers);
+    let verdict = ran.verdict;
+    returned::answered(verdict, ran.count, answer)
 }
 
 // M, the number of words of an element of rank m; 0 above rank 6.

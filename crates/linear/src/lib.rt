@@ -38,13 +38,15 @@ pub fn sum(m: usize, left: &[u64], right: &[u64], result: &mut [u64]) -> Answer
 pub fn scale(m: usize, c: u64, element: &[u64], result: &mut [u64]) -> Answer
     ensures { λ a. ⌜ scaleCall m c (now (element .entry)) (now (result .entry)) ≡ record { answer = a; lent = now (result .exit) } ⌝ }
 {
+    let lent = result.len();
     let checked = then(
         then(checks::rank(m), checks::sized(m, element.len())),
-        checks::sized(m, result.len()),
+        checks::sized(m, lent),
     );
     if let Verdict::Refused(why) = checked {
         return refused(why);
     }
     word_lists::scale_into(result, c, element);
-    accepted(ranks::size(m) as u64)
+    let count = ranks::size(m);
+    accepted(count as u64)
 }

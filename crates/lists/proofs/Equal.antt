@@ -1,19 +1,11 @@
 -- Equality of lists of numbers as a test. Rests on Test.
---
---   equal w v       the test w = v
 use mathlib.Core.Path.{_≡_, refl, sym, ap₂, _∙_}
 use mathlib.Core.Logic.{_≢_}
-use mathlib.Core.Bool.{Bool, true, false, _&&_}
+use mathlib.Core.Bool.{true, false}
 use mathlib.Core.List.{List, [], _∷_, head-eq-of-cons-eq, tail-eq-of-cons-eq, nil≢cons, cons≢nil}
 use Prim.Native.Nat.{ℕ}
-use Rattle.lists.specs.Lists.{same}
+use Rattle.lists.specs.Lists.{same, equal}
 use Rattle.lists.proofs.Test.{SameView, is, isnt, same?}
-
-unfoldable pub equal : List ℕ → List ℕ → Bool
-equal [] [] = true
-equal [] (y ∷ v) = false
-equal (x ∷ w) [] = false
-equal (x ∷ w) (y ∷ v) = same x y && equal w v
 
 data EqualView (w v : List ℕ) : Type 0 where
   equals : w ≡ v → equal w v ≡ true → EqualView w v

@@ -8,7 +8,8 @@
 --   All P s       P holds of each element of s
 --   tally p w     how many elements of w pass the test p
 --   count v w     how often v stands in w
-use mathlib.Core.Bool.{Bool, true, false, cond}
+--   equal w v     the test w = v
+use mathlib.Core.Bool.{Bool, true, false, cond, _&&_}
 use mathlib.Core.List.{List, [], _∷_}
 use Prim.Native.Nat.{ℕ, zero, suc, _+_}
 use lib.Dec.{eqb, ltb}
@@ -41,3 +42,9 @@ tally p (x ∷ w) = bit (p x) + tally p w
 
 unfoldable pub count : ℕ → List ℕ → ℕ
 count v w = tally (λ x. same x v) w
+
+unfoldable pub equal : List ℕ → List ℕ → Bool
+equal [] [] = true
+equal [] (y ∷ v) = false
+equal (x ∷ w) [] = false
+equal (x ∷ w) (y ∷ v) = same x y && equal w v

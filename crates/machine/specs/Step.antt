@@ -2,6 +2,7 @@
 --
 --   obey m q c x         the words of the registers after the command c, in a sheet of rank m with the word q
 --   cost m c             the ring operations that the command counts
+--   stepReport a         number, place and count of an answer: document 01 has no number for a command that is not obeyed
 --   stepCall m q c x     one command on lent registers: the answer with the count, and the registers; nothing is done where an operand is out of range
 --                        or the registers are not 4 × 720 words
 use mathlib.Core.Bool.{cond, _&&_}
@@ -11,7 +12,8 @@ use lib.ListN.{length, set}
 use Rattle.ring.specs.Modular.{words}
 use Rattle.lists.specs.Lists.{same}
 use Rattle.lists.specs.Numbers.{factorial}
-use Rattle.refusals.specs.Refusals.{Outcome}
+use Rattle.refusals.specs.Refusals.{Report, reported, Outcome}
+use Rattle.refusals.specs.declared.Verdict.the-variants.{Accepted}
 use Rattle.algebra.specs.Element.{plus, scale, unit}
 use Rattle.algebra.specs.Product.{minusOne, act, times}
 use Rattle.algebra.specs.Cost.{C}
@@ -47,6 +49,10 @@ cost m (Scale r v) = factorial (suc m)
 cost m (Show r) = 0
 cost m (Pair a b) = 0
 cost m (Equal a b) = 0
+
+abbrev pub stepReport : Answer → Report
+stepReport (Obeyed n) = reported Accepted n
+stepReport NotObeyed = reported Accepted 0
 
 unfoldable pub stepCall : ℕ → ℕ → Command → List ℕ → Outcome Answer (List ℕ)
 stepCall m q c x =

@@ -1,4 +1,4 @@
--- What the inner functions of the runner are lent.
+-- What the inner functions of the machine are lent.
 --
 --   Registers m size x   the registers of a sheet of rank m, and M
 use mathlib.Core.Path.{_≡_}

@@ -8,8 +8,8 @@ use native.Mathlib.Numerals.{add-one}
 use native.Mathlib.Omega.{arith}
 use lib.ListN.{length, getD, drop, drop-of-length-le}
 use lib.Seq.{drop-cons}
+use Rattle.lists.specs.Lists.{equal}
 use Rattle.lists.proofs.Test.{same-yes, same-no}
-use Rattle.output.specs.Text.{equal}
 
 -- two lists of one size are equal exactly where their words from index i on are
 pub record Alike (a b : List ℕ) (i : ℕ) : Type 0 where

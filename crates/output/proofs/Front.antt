@@ -5,25 +5,26 @@ use Prim.Native.Nat.{ℕ, _+_, _≤_}
 use native.Mathlib.Omega.{arith}
 use lib.ListN.{length, drop, length-append}
 use Rattle.lists.specs.Overwrite.{overwrite}
+use Rattle.refusals.specs.Refusals.{Outcome}
 use Rattle.refusals.specs.declared.Refusal.{Refusal}
 use Rattle.sheet_format.specs.declared.Command.{Command}
 use Rattle.output.specs.Steps.{Written}
-use Rattle.output.specs.Printed.{Outcome, front, textCall, errorCall}
+use Rattle.output.specs.Printed.{front, textCall, errorCall}
 
-pub front-written : {t buffer last : List ℕ} {k : ℕ} → Written 0 t buffer last k → front t buffer ≡ record { size = k; lent = last }
+pub front-written : {t buffer last : List ℕ} {k : ℕ} → Written 0 t buffer last k → front t buffer ≡ record { answer = k; lent = last }
 unfolding front
-front-written {t} {k = k} h = let e : length t ≡ k = omega (arith, h .ends) in λ i. record { size = e i; lent = sym (h .text) i }
+front-written {t} {k = k} h = let e : length t ≡ k = omega (arith, h .ends) in λ i. record { answer = e i; lent = sym (h .text) i }
 
-front-within : (t buffer : List ℕ) {o : Outcome} → front t buffer ≡ o → o .size ≤ length (o .lent)
+front-within : (t buffer : List ℕ) {o : Outcome ℕ (List ℕ)} → front t buffer ≡ o → o .answer ≤ length (o .lent)
 unfolding front overwrite
-front-within t buffer e = omega (arith, ap (λ o. o .size) e, ap (λ o. length (o .lent)) e, length-append t (drop (0 + length t) buffer))
+front-within t buffer e = omega (arith, ap (λ o. o .answer) e, ap (λ o. length (o .lent)) e, length-append t (drop (0 + length t) buffer))
 
 module _ {k : ℕ} {last : List ℕ} where
-  pub text-within : (m q : ℕ) (c : Command) (x : List ℕ) (n : ℕ) (buffer : List ℕ) → textCall m q c x n buffer ≡ record { size = k; lent = last }
+  pub text-within : (m q : ℕ) (c : Command) (x : List ℕ) (n : ℕ) (buffer : List ℕ) → textCall m q c x n buffer ≡ record { answer = k; lent = last }
       → k ≤ length last
   unfolding textCall
   text-within m q c x n buffer e = front-within _ buffer e
 
-  pub error-within : (why : Refusal) (buffer : List ℕ) → errorCall why buffer ≡ record { size = k; lent = last } → k ≤ length last
+  pub error-within : (why : Refusal) (buffer : List ℕ) → errorCall why buffer ≡ record { answer = k; lent = last } → k ≤ length last
   unfolding errorCall
   error-within why buffer e = front-within _ buffer e

@@ -9,7 +9,7 @@ use native.Mathlib.Omega.{arith}
 use lib.ListN.{length, length-append}
 use Rattle.ring.specs.Sum.{sum}
 use Rattle.ring.specs.Modular.{words, modular}
-use Rattle.lists.specs.Lists.{bit, All}
+use Rattle.lists.specs.Lists.{bit, All, equal}
 use Rattle.lists.specs.Numbers.{factorial}
 use Rattle.lists.proofs.All.{all-getD}
 use Rattle.algebra.specs.Pairing.{pairing}
@@ -21,7 +21,7 @@ use Rattle.machine.specs.Registers.{element}
 use Rattle.machine.specs.Steps.{Registers}
 use Rattle.machine.proofs.Put.{small, words-element}
 use Rattle.runner.specs.Run.{Machine}
-use Rattle.output.specs.Text.{coefficients, equal, room}
+use Rattle.output.specs.Text.{coefficients, room}
 use Rattle.output.specs.Printed.{text}
 use Rattle.output.proofs.LineLengths.{bit-small, digit-line, line-short, tagged-pair-short, coefficients-short}
 

@@ -5,8 +5,7 @@
 --   refusalText why          the line of a refused sheet
 --   printedFor v s           all that is printed for the sheet s with the verdict v
 --   printed s                all that is printed for the sheet s
---   Outcome                  the size of a text, and a lent buffer as the call leaves it
---   front t buffer           the text t put at the front of a buffer
+--   front t buffer           the text t put at the front of a buffer, and its size as the answer
 --   textCall m q c x n buffer   the text of a command, where x holds the registers and n the count: nothing for a buffer with less than the room, for
 --                            registers of another size than 4 × 720 words and for an operand out of range
 --   errorCall why buffer     the line of a refusal: nothing for a buffer with less than its room
@@ -15,9 +14,9 @@ use mathlib.Core.List.{List, [], _∷_, _++_}
 use Prim.Native.Nat.{ℕ}
 use lib.ListN.{length}
 use Rattle.ring.specs.Modular.{words}
-use Rattle.lists.specs.Lists.{same, less, bit}
+use Rattle.lists.specs.Lists.{same, less, bit, equal}
 use Rattle.lists.specs.Overwrite.{overwrite}
-use Rattle.refusals.specs.Refusals.{refusalNumber, refusalPlace}
+use Rattle.refusals.specs.Refusals.{refusalNumber, refusalPlace, Outcome}
 use Rattle.refusals.specs.declared.Refusal.{Refusal}
 use Rattle.refusals.specs.declared.Verdict.{Verdict}
 use Rattle.refusals.specs.declared.Verdict.the-variants.{Accepted, Refused}
@@ -28,7 +27,7 @@ use Rattle.sheet_format.specs.declared.Command.the-variants.{End, Begin, Unit, 
 use Rattle.sheet.specs.Check.{inRange, placed, checkSheet}
 use Rattle.machine.specs.Registers.{element}
 use Rattle.runner.specs.Run.{Machine, start, after, commands}
-use Rattle.output.specs.Text.{line, taggedPair, coefficients, room, errorRoom, equal}
+use Rattle.output.specs.Text.{line, taggedPair, coefficients, room, errorRoom}
 
 -- the letters E, H, N, P, Q and R are 69, 72, 78, 80, 81 and 82
 unfoldable pub text : ℕ → ℕ → Command → Machine → List ℕ
@@ -60,16 +59,12 @@ printed s = printedFor (checkSheet s) s
 
 -- ---- the text in a lent buffer
 
-pub record Outcome : Type 0 where
-  pub size : ℕ
-  pub lent : List ℕ
+unfoldable pub front : List ℕ → List ℕ → Outcome ℕ (List ℕ)
+front t buffer = record { answer = length t; lent = overwrite 0 t buffer }
 
-unfoldable pub front : List ℕ → List ℕ → Outcome
-front t buffer = record { size = length t; lent = overwrite 0 t buffer }
-
-unfoldable pub textCall : ℕ → ℕ → Command → List ℕ → ℕ → List ℕ → Outcome
+unfoldable pub textCall : ℕ → ℕ → Command → List ℕ → ℕ → List ℕ → Outcome ℕ (List ℕ)
 textCall m q c x n buffer =
     front (cond (not (less (length buffer) room) && same (length x) 2880 && inRange m c) (text m q c (record { words = x; count = n })) []) buffer
 
-unfoldable pub errorCall : Refusal → List ℕ → Outcome
+unfoldable pub errorCall : Refusal → List ℕ → Outcome ℕ (List ℕ)
 errorCall why buffer = front (cond (less (length buffer) errorRoom) [] (refusalText why)) buffer

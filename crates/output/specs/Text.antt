@@ -9,9 +9,8 @@
 --   taggedPair tag a b   a letter, a space and such a pair
 --   coefficients i h     a line of index and value for each nonzero coefficient of h, the first of which has the index i
 --   room, errorRoom      bytes enough for what any command prints, 4 and 25 for each of 720 coefficients, and for the line of any refusal
---   equal h g            the test for equal words
 use mathlib.Core.Path.{_≡_}
-use mathlib.Core.Bool.{Bool, true, false, cond, _&&_}
+use mathlib.Core.Bool.{cond}
 use mathlib.Core.List.{List, [], _∷_, _++_}
 use Prim.Native.Nat.{ℕ, zero, suc, _+_, _-_, _*_, _/_, _%_, _≤_}
 use lib.ListN.{getD}
@@ -51,9 +50,3 @@ room = 4 + 25 * 720
 
 abbrev pub errorRoom : ℕ
 errorRoom = 26
-
-unfoldable pub equal : List ℕ → List ℕ → Bool
-equal [] [] = true
-equal [] (y ∷ g) = false
-equal (x ∷ h) [] = false
-equal (x ∷ h) (y ∷ g) = same x y && equal h g

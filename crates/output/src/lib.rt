@@ -5,11 +5,11 @@ ghost use mathlib.Core.Bool.{true};
 ghost use mathlib.Core.List.{_++_};
 ghost use Prim.Native.Nat.{ℕ, _<_};
 ghost use Rattle.ring.specs.Modular.{words};
-ghost use Rattle.lists.specs.Lists.{bit};
+ghost use Rattle.lists.specs.Lists.{bit, equal};
 ghost use Rattle.algebra.specs.Pairing.{pairing};
 ghost use Rattle.sheet.specs.Check.{inRange};
 ghost use Rattle.machine.specs.Registers.{element};
-ghost use Rattle.output.specs.Text.{line, coefficients, equal};
+ghost use Rattle.output.specs.Text.{line, coefficients};
 ghost use Rattle.output.specs.Printed.{text, textCall, errorCall};
 ghost use Rattle.output.specs.Steps.{Written, Shown};
 use refusals::Refusal;
@@ -84,7 +84,7 @@ fn put_text(buffer: &mut [u8], x: &[u64], count: u64, m: usize, q: u64, command:
 // buffer is shorter, x is not 4 x 720 words or an operand is out of range.
 // Example: the end of a sheet after 6 ring operations prints N 6 and a newline, 4 bytes.
 pub fn text(m: usize, q: u64, command: Command, x: &[u64], count: u64, buffer: &mut [u8]) -> usize
-    ensures { λ n. ⌜ textCall m q command (now (x .entry)) count (now (buffer .entry)) ≡ record { size = n; lent = now (buffer .exit) } ⌝ }
+    ensures { λ n. ⌜ textCall m q command (now (x .entry)) count (now (buffer .entry)) ≡ record { answer = n; lent = now (buffer .exit) } ⌝ }
 {
     if buffer.len() < ROOM {
         return 0;
@@ -102,7 +102,7 @@ pub fn text(m: usize, q: u64, command: Command, x: &[u64], count: u64, buffer: &
 // the buffer is shorter.
 // Example: for an empty sheet it is E 9 0 and a newline, 6 bytes.
 pub fn error(why: Refusal, buffer: &mut [u8]) -> usize
-    ensures { λ n. ⌜ errorCall why (now (buffer .entry)) ≡ record { size = n; lent = now (buffer .exit) } ⌝ }
+    ensures { λ n. ⌜ errorCall why (now (buffer .entry)) ≡ record { answer = n; lent = now (buffer .exit) } ⌝ }
 {
     if buffer.len() < ERROR_ROOM {
         return 0;

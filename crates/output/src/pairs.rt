@@ -4,8 +4,8 @@ ghost use mathlib.Core.Path.{_≡_};
 ghost use Prim.Native.Nat.{ℕ};
 ghost use lib.ListN.{length};
 ghost use Rattle.ring.specs.Modular.{words};
+ghost use Rattle.lists.specs.Lists.{equal};
 ghost use Rattle.algebra.specs.Pairing.{pairing};
-ghost use Rattle.output.specs.Text.{equal};
 ghost use Rattle.output.specs.Steps.{PairingPre};
 
 // The sum over w of q to the power ℓ(w) times a_w times b_w. The length of u a(m, k) is that of u and k, so block k counts with

@@ -1,17 +1,21 @@
 -- The calls on permutations and towers, whole: for all lists, what a call answers and what its buffer then holds.
 --
---   firstBadImage w               the index of the first image that is 0, too large or already seen, else the number of images
+--   badImage w i                  the image at an index is 0, too large or already seen
+--   firstBadImage w               the index of the first such image, else the number of images
 --   firstBadEntry t               the index of the first entry a_j above j, else the number of entries
 --   imagesVerdict w               5 and 6: on an image list
+--   entriesVerdict t              7: on the entries of a tower
 --   towerVerdict t                5 and 7: on a tower
 --   towersVerdict t u             5 and 7: on two towers of one length
 --   exact size n                  8: on the size of a buffer for a result of n bytes
 --   room size n                   8: on the size of a buffer for a word of n letters
+--   write v b x                   how a call ends that writes the list x into the buffer b
 --   counted v n, spell v b x      the answer of a call that counts; the same with a word that is written, after whose letters the buffer stays
 --   generators v p m              the answer of a call for a set of generators, those at which p holds
 --   xCall                         the call x
---   countedReport a               number, place and count of such an answer
---   generatorsReport a            number, place and count of a set of generators, and its mask
+--   countedReport a               number, place and count of the answer of a call that counts
+--   generatorsReport a            the same of the answer for a set of generators
+--   generatorsMask a              its mask, 0 for a refusal
 use mathlib.Core.Bool.{Bool, not, _||_}
 use mathlib.Core.List.{List, _++_}
 use Prim.Native.Nat.{ℕ, suc, _+_}

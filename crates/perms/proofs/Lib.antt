@@ -1,3 +1,5 @@
+pub mod Vectors
+pub mod Agreement
 pub mod Swap
 pub mod Perm
 pub mod Identity

@@ -1,5 +1,5 @@
 -- Products of image lists: a generator on either side and a word on the right act as in Perm, and a product of words is the joined word. Rests on
--- Range and Image.
+-- Image and lists' Range.
 use mathlib.Core.Path.{_≡_, sym, ap, _∙_}
 use mathlib.Core.List.{List, [], _∷_, _++_, map, map-map, map-id}
 use Prim.Native.Nat.{ℕ, zero, suc, pred, _+_, _≤_, _<_}

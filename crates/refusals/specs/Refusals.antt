@@ -9,8 +9,8 @@
 --   verdictReport v               the report of a verdict alone, which counts 0
 --   answerReport a                the report of an answer that has its count
 --   Outcome A B                   an answer, and what is lent to the call, as the call leaves it
---   ended v refuse done old new        a call with the verdict v: refused, it answers by `refuse` and leaves what is lent as it was; else it answers `done`
---                                 and makes it new
+--   ended v refuse done old new   a call with the verdict v: refused, it answers by `refuse` and leaves what is lent as it was; else it answers
+--                                 `done` and makes it new
 --   Refuses r                     of a report: if something is refused, it counts 0; and no place is above 4,096
 --   Keeps r old new               and if something is refused, what is lent stays as it was
 use mathlib.Core.Path.{_≡_}

@@ -1,4 +1,4 @@
--- The text of a command in range, with registers of 4 × 720 words, is put at the front of the buffer. Rests on the definitions alone.
+-- The text of a command in range, with registers of 4 × 720 words, is put at the front of the buffer. Rests on lists' Test.
 use mathlib.Core.Path.{_≡_, sym, ap, _∙_}
 use mathlib.Core.Bool.{true}
 use mathlib.Core.List.{List}
@@ -7,17 +7,18 @@ use lib.ListN.{length, take}
 use lib.Seq.{take-append-seam}
 use Rattle.lists.specs.Overwrite.{overwrite}
 use Rattle.lists.proofs.Test.{same-yes, less-no}
+use Rattle.refusals.specs.Refusals.{Outcome}
 use Rattle.sheet_format.specs.declared.Command.{Command}
 use Rattle.sheet.specs.Check.{inRange}
 use Rattle.output.specs.Text.{room}
-use Rattle.output.specs.Printed.{Outcome, text, front, textCall}
+use Rattle.output.specs.Printed.{text, front, textCall}
 use Rattle.run_sheet.specs.Pieces.{machine}
 
-front-taken : (text t : List ℕ) {o : Outcome} → front text t ≡ o → take (o .size) (o .lent) ≡ text
+front-taken : (text t : List ℕ) {o : Outcome ℕ (List ℕ)} → front text t ≡ o → take (o .answer) (o .lent) ≡ text
 unfolding front overwrite
-front-taken text t e = ap (λ o. take (o .size) (o .lent)) (sym e) ∙ take-append-seam text _
+front-taken text t e = ap (λ o. take (o .answer) (o .lent)) (sym e) ∙ take-append-seam text _
 
 module _ (m q : ℕ) (c : Command) (x : List ℕ) (range : inRange m c ≡ true) (four : length x ≡ 2880) where
-  pub text-put : (n : ℕ) (t : List ℕ) {o : Outcome} → room ≤ length t → textCall m q c x n t ≡ o → take (o .size) (o .lent) ≡ text m q c (machine x n)
+  pub text-put : (n : ℕ) (t : List ℕ) {o : Outcome ℕ (List ℕ)} → room ≤ length t → textCall m q c x n t ≡ o → take (o .answer) (o .lent) ≡ text m q c (machine x n)
   unfolding textCall
   text-put n t h e = front-taken _ t (rw (less-no {x = length t} {a = room} h, same-yes four, range) at e)

@@ -98,7 +98,7 @@ module _ {m q : ℕ} {s : List ℕ} {at next : ℕ} {x : Machine} {c : Command} 
 
   pub filling-more : {from : ℕ} {old : Machine} {b last y : List ℕ} {a : Answer} {used k n : ℕ} → Filling s from old b used at x
       → room ≤ length b - used → length last ≡ length (midOf used (length b - used) b)
-      → textCall m q c (x .words) (x .count) (midOf used (length b - used) b) ≡ record { size = k; lent = last }
+      → textCall m q c (x .words) (x .count) (midOf used (length b - used) b) ≡ record { answer = k; lent = last }
       → stepCall m q c (x .words) ≡ record { answer = a; lent = y } → a ≡ Obeyed n → length y ≡ length (x .words)
       → Filling s from old (putMid used (length b - used) b last) (used + k) next (machine y (x .count + n))
   filling-more {from} {old} {b} {last} {y} {a} {used} {k} {n} f h size put made is kept = record {

@@ -1,4 +1,4 @@
--- Commands in range keep the size of the registers, and the zeros past M in each. Rests on Put and sheet's InRange.
+-- Commands in range keep the size of the registers, and the zeros past M in each. Rests on machine's Put and sheet's InRange.
 --
 --   Kept M x   four registers of 720 words, each of them zero past the first M
 use mathlib.Core.Path.{_≡_, refl, sym, ap, _∙_}

@@ -7,20 +7,20 @@ use native.Mathlib.Omega.{arith}
 use lib.ListN.{length, drop, replicate, length-drop, length-replicate, getD-replicate}
 use lib.Seq.{length-take-le, getD-take, getD-drop, ext-getD}
 use Rattle.lists.specs.Lists.{same}
-use Rattle.refusals.specs.Refusals.{_then_, unless, answerReport, Keeps}
+use Rattle.lists.proofs.Test.{less-no}
+use Rattle.refusals.specs.Refusals.{_then_, unless, answerReport, Refuses, Keeps}
 use Rattle.refusals.specs.declared.Verdict.{Verdict}
 use Rattle.refusals.specs.declared.Verdict.the-variants.{Accepted, Refused}
 use Rattle.refusals.specs.declared.Refusal.the-variants.{Buffer}
-use Rattle.refusals.proofs.Verdicts.{near-then, near-unless}
+use Rattle.refusals.proofs.Verdicts.{Near, near-then, near-unless}
 use Rattle.refusals.proofs.Ended.{ended-keeps}
-use Rattle.ranks.specs.Ranks.{size}
 use Rattle.ranks.proofs.Sizes.{size-is}
 use Rattle.sheet_format.specs.Format.{rank, parameter}
 use Rattle.sheet.specs.Check.{placed, checkSheet}
 use Rattle.sheet.proofs.Table.{exactly}
 use Rattle.machine.specs.Registers.{register}
-use Rattle.runner.specs.Run.{start, commands, obeyed, ran, runVerdict, runCall}
-use Rattle.runner.specs.Runs.{Runs}
+use Rattle.runner.specs.Run.{start, commands, obeyed, ran, given, runSheet, finishedReport, runVerdict, runCall}
+use Rattle.runner.specs.Runs.{M, Runs}
 use Rattle.runner.proofs.Ahead.{rank-low, all-in-range}
 use Rattle.runner.proofs.Kept.{Kept, kept-zeros, kept-all}
 
@@ -40,9 +40,9 @@ module _ {M : ℕ} {x : List ℕ} (k : Kept M x) (r : ℕ) (four : r < 4) where
       ∙ k .past r (M + i) four (omega arith) (omega arith)
       ∙ sym (getD-replicate (720 - M) i 0 0 (omega arith)))
 
-kept : (s : List ℕ) (v : Verdict) → checkSheet s ≡ v → Kept (size (rank s)) (ran v s .words)
-kept s (Refused why) e = kept-zeros (size (rank s))
-kept s Accepted e = rw (size-is (rank s) (omega (arith, rank-low s e))) (kept-all (rank s) (parameter s) (commands (placed s)) start (all-in-range s e) (kept-zeros _))
+kept : (s : List ℕ) (v : Verdict) → checkSheet s ≡ v → Kept (M s) (ran v s .words)
+kept s (Refused why) e = kept-zeros (M s)
+kept s Accepted e = let low = rank-low s e in rw (less-no {x = 5} {a = rank s} low, size-is (rank s) (omega arith)) (kept-all (rank s) (parameter s) (commands (placed s)) start (all-in-range s e) (kept-zeros _))
 
 keeps : (s x : List ℕ) → Keeps (answerReport (runCall s x .answer)) x (runCall s x .lent)
 unfolding runCall runVerdict
@@ -51,10 +51,16 @@ keeps s x =
     ended-keeps answerReport (checkSheet s then unless four Buffer) _ _ (obeyed s .count) x _ (λ why. refl) refl
     (near-then (checkSheet s) (unless four Buffer) (exactly s .report .near) (λ e. near-unless four Buffer (λ t. omega arith)))
 
+reports : (s : List ℕ) (v : Verdict) → checkSheet s ≡ v → Near v → Refuses (finishedReport (given v (ran v s)))
+reports s Accepted e h = record { counts = λ d. absurd (d refl); near = h }
+reports s (Refused why) e h = record { counts = λ d. refl; near = h }
+
 pub runs : (s : List ℕ) → Runs s
+unfolding runSheet
 runs s = let k = kept s (checkSheet s) refl in record {
   four = register-size k;
   past = register-past k;
+  report = reports s (checkSheet s) refl (exactly s .report .near);
   refused = λ why e. rw e refl;
   obeyed = all-in-range s;
   lent = keeps s;

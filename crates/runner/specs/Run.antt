@@ -10,6 +10,7 @@
 --   ran v s               the machine after the sheet s with the verdict v
 --   given v x             the verdict and the machine as they are given back
 --   runSheet s            what the run of a sheet gives back
+--   finishedReport f      number, place and count of what is given back
 --   runVerdict s x        9 to 14: on the sheet; then 8: on lent registers x, which are to be 4 × 720 words
 --   runCall s x           the run of a sheet on lent registers
 use mathlib.Core.Bool.{not}
@@ -17,7 +18,7 @@ use mathlib.Core.List.{List, [], _∷_, _++_}
 use Prim.Native.Nat.{ℕ, _+_}
 use lib.ListN.{length, replicate}
 use Rattle.lists.specs.Lists.{same}
-use Rattle.refusals.specs.Refusals.{_then_, unless, accepted, refused, Outcome, ended}
+use Rattle.refusals.specs.Refusals.{_then_, unless, accepted, refused, Report, reported, Outcome, ended}
 use Rattle.refusals.specs.declared.Refusal.the-variants.{Buffer}
 use Rattle.refusals.specs.declared.Verdict.{Verdict}
 use Rattle.refusals.specs.declared.Verdict.the-variants.{Accepted, Refused}
@@ -74,6 +75,9 @@ given v x = record {
 
 unfoldable pub runSheet : List ℕ → Finished
 runSheet s = given (checkSheet s) (ran (checkSheet s) s)
+
+abbrev pub finishedReport : Finished → Report
+finishedReport f = reported (f .ending) (f .count)
 
 unfoldable pub runVerdict : List ℕ → List ℕ → Verdict
 runVerdict s x = checkSheet s then unless (not (same (length x) 2880)) Buffer

@@ -1,38 +1,48 @@
 // What the test programs share: numbers read from standard input, and fields written to standard output.
 
+ghost use mathlib.Core.Path.{_≡_};
+ghost use Prim.Native.Nat.{_≤_};
+ghost use lib.ListN.{length};
+ghost use Rattle.vector_io.specs.Numbers.{number, Below};
+
 // What is read of the input: a number, or nothing more.
 pub enum Read {
     Number(u64),
     End,
 }
 
-// The word with one more byte below its lowest seven.
-fn with_byte(word: u64, byte: u8) -> u64 {
-    word % 0x100_0000_0000_0000 * 256 + byte as u64
-}
-
-// The word of eight bytes, the lowest first.
-fn word_of(bytes: &[u8; 8]) -> u64 {
+// The number of at most eight bytes, the lowest first.
+fn word_of(bytes: &[u8]) -> u64
+    requires { ⌜ length (now bytes) ≤ 8 ⌝ }
+    ensures { λ r. ⌜ r ≡ number (now (bytes .entry)) ⌝ }
+{
     let mut word = 0;
-    for i in 0..8 {
-        word = with_byte(word, bytes[7 - i]);
+    let mut i = bytes.len();
+    while 0 < i {
+        i -= 1;
+        word = bytes[i] as u64 + 256 * word;
     }
     word
 }
 
 // The number that the next bytes make, at most eight of them, the lowest first.
-pub fn read_number(size: usize) -> Read {
-    let mut bytes = [0u8; 8];
+// Example: the bytes 2 1, with size 2, make 258.
+pub fn read_number(size: usize) -> Read
+    ensures { λ r. ⌜ Below size r ⌝ }
+{
     if 8 < size {
         return Read::End;
     }
-    if io::read_full(0, &mut bytes[0..size]) < size {
+    let mut space = [0u8; 8];
+    let bytes = &mut space[0..size];
+    if io::read_full(0, bytes) < size {
         return Read::End;
     }
-    Read::Number(word_of(&bytes))
+    Read::Number(word_of(bytes))
 }
 
 // A space and the number.
+// Example: for 258 it prints a space and 258.
 pub fn print_field(n: u64) {
     io::write_all(1, b" ");
     io::print_decimal(1, n);

@@ -1,4 +1,4 @@
--- The four calls, each by its contract and the size of its scratch; then demand 3. Rests on FourProducts and hecke's WordSlices.
+-- The four calls, each by its contract and the size of its scratch; then demand 3. Rests on FourProducts and algebra's WordSlices.
 use mathlib.Core.Path.{_∙_}
 use borrow.Author.Needs.{needs}
 use Rattle.algebra.proofs.WordSlices.{slice-element}

@@ -6,4 +6,4 @@ use Rattle.hecke_c.proofs.hecke_run_sheet.Statement.{statement}
 use Rattle.hecke_c.proofs.hecke_run_sheet.Tie as tie
 
 pub hecke-run-sheet-spec : {M : Type 1} → statement M
-hecke-run-sheet-spec = tie.close (tie.spec (λ c κs. search needs) (λ c κs. search (run-near, needs)) (λ c. search needs) (λ c. search needs) (λ c. search (answer-call, needs)))
+hecke-run-sheet-spec = tie.close (tie.spec (λ c κs. search needs) (λ c κs. search (run-near, needs)) (λ c. search (answer-call, needs)) (λ c. search (answer-call, needs)) (λ c. search (answer-call, needs)))

@@ -47,6 +47,12 @@ turn c = let read = c .before .before .before in record {
   stands = sym (read .read .ensures) ∙ c .before .found .given .1;
 }
 
+loop-again : tie.Need-loop-again Inv-loop μ-loop
+loop-again c =
+    let s = c .before .before .before .before .before in let t = turn (told s) in
+    running-more t (sym (ap (λ o. o .lent) (turn-obeyed t (s .step .ensures)))) (s .step .kept .1 .1 .1 .0)
+    (obeyed-cost t (s .step .ensures) (c .before .obeyed .given .1))
+
 -- the command is in range, and so it is obeyed
 unobeyed : (c : tie.At-match2-keys2 Inv-loop μ-loop) → ⊥
 unobeyed c = let s = c .before .before .before in
@@ -59,12 +65,6 @@ add-count c =
 
 loop-less : tie.Need-loop-less Inv-loop μ-loop
 loop-less c = let t = turn (told (c .before .before .before .before .before)) in omega (arith, t .inside, turn-on t)
-
-loop-again : tie.Need-loop-again Inv-loop μ-loop
-loop-again c =
-    let s = c .before .before .before .before .before in let t = turn (told s) in
-    running-more t (sym (ap (λ o. o .lent) (turn-obeyed t (s .step .ensures)))) (s .step .kept .1 .1 .1 .0)
-    (obeyed-cost t (s .step .ensures) (c .before .obeyed .given .1))
 
 same-length : tie.Need-same-length-3 Inv-loop μ-loop
 same-length c = c .before .loop .inv .four ∙ sym (c .before .before .before .before .before .before .pre .0)

@@ -1,10 +1,11 @@
 -- The sizes are compared; then the loop writes the words of the sum. Rests on Loops and Into.
 use mathlib.Core.Path.{_≡_, refl, sym, _∙_}
 use mathlib.Core.Bool.{and-false}
-use Prim.Native.Nat.{ℕ, _-_, _≤_}
+use mathlib.Core.List.{List}
+use Prim.Native.Nat.{ℕ, _+_, _-_, _≤_, _<_}
 use native.Mathlib.Omega.{arith}
 use borrow.Author.Needs.{needs}
-use lib.ListN.{length}
+use lib.ListN.{length, getD, set}
 use Rattle.ring.specs.Modular.{words}
 use Rattle.lists.proofs.Test.{same-no}
 use Rattle.lists.proofs.Fill.{filled-none, filled-more}
@@ -35,16 +36,16 @@ unfolding sumInto
 returns-2 c = let u = c .before .before .before .before .before .args in
     rw (same-no {x = length (u .h .now)} {a = length (u .g .now)} (λ e. omega arith), and-false) refl
 
+-- one word more
+sum-more : {d₀ d : List ℕ} {i v : ℕ} (h g : List ℕ) → Written (plus ℕ words h g) d₀ d i → v ≡ words .add (getD h i 0) (getD g i 0) → i < length h
+    → length d₀ ≡ length h → length h ≡ length g → Written (plus ℕ words h g) d₀ (set d i v) (i + 1)
+sum-more {i = i} h g w e l first next = filled-more _ w (omega arith) (plus-next h g i e refl refl l next)
+
 loop-holds : tie.Need-loop-holds Inv-loop μ-loop
 loop-holds c = (omega arith, refl, filled-none _ _)
 
 loop-again : tie.Need-loop-again Inv-loop μ-loop
-loop-again c = let at = c .before .before .before .before in let u = start at .args in (
-  omega arith,
-  refl,
-  filled-more _ (at .loop .inv .2) (omega arith)
-      (plus-next (u .h .now) (u .g .now) (at .loop .i) (c .add .ensures) refl refl (omega arith) (omega arith)),
-)
+loop-again c = (omega arith, refl, search (sum-more, needs))
 
 same-length : tie.Need-same-length Inv-loop μ-loop
 same-length c = c .before .loop .inv .2 .same

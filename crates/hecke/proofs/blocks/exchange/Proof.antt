@@ -1,9 +1,10 @@
 -- The loop writes the words of both blocks, from the end; when it reads words i of both, they are still as they were.
 use mathlib.Core.Path.{_≡_, sym, _∙_}
-use Prim.Native.Nat.{ℕ, _-_, _≤_}
+use mathlib.Core.List.{List}
+use Prim.Native.Nat.{ℕ, suc, _+_, _-_, _≤_}
 use native.Mathlib.Omega.{arith}
 use borrow.Author.Needs.{needs}
-use lib.ListN.{length, take, drop, length-set}
+use lib.ListN.{length, getD, set, take, drop, length-set}
 use Rattle.ring.specs.Modular.{words}
 use Rattle.algebra.specs.Element.{plus, scale}
 use Rattle.algebra.proofs.Lists.{plus-length, scale-length}
@@ -26,15 +27,23 @@ slice-write-x-2 : tie.Need-slice-write-x-2 Inv-loop μ-loop
 slice-write-x-2 c = let at = c .before .before .before .before .before .before in
     omega (arith, length-set (at .loop .x) (at .loop .i - 1) (c .before .before .mul .result), at .loop .inv .1 .same)
 
+-- word j of the second block, a sum of two words; the other half is z
+second-next : {z x₀ x : List ℕ} {i : ℕ} (b r j : ℕ)
+    → Exchanged b z (plus ℕ words (take b x₀) (scale ℕ words r (drop b x₀))) x₀ x i → length x₀ ≡ b + b → i ≡ suc j → i ≤ b → (w p : ℕ)
+    → w ≡ words .add (getD x j 0) p → p ≡ words .mul r (getD x (b + j) 0) → w ≡ getD (plus ℕ words (take b x₀) (scale ℕ words r (drop b x₀))) j 0
+second-next {x₀ = x₀} b r j h two n le w p e f =
+    let s = take b x₀ in let t = drop b x₀ in
+    let low = low-size b x₀ two in let high = high-size b x₀ two in
+    let multiple = scale-next r t j f (exchanged-high j h n) (omega (arith, high)) in
+    plus-next s (scale ℕ words r t) j e (exchanged-low j h n le) multiple (omega (arith, low)) (low ∙ sym (scale-length ℕ words r t ∙ high))
+
 loop-again : tie.Need-loop-again Inv-loop μ-loop
 loop-again c = let at = c .before .before .before .before .before .before in let start = at .before .before in let u = start .args in
-    let j = at .loop .i - 1 in let h = at .loop .inv .1 in let s = take (u .b) (u .x .now) in let t = drop (u .b) (u .x .now) in
-    let low = low-size (u .b) (u .x .now) (start .pre) in let high = high-size (u .b) (u .x .now) (start .pre) in
-    let first = scale-next (u .q) t j (c .before .before .mul .ensures) (exchanged-high j h (omega arith)) (omega (arith, high)) in
-    let multiple = scale-next (u .r) t j (c .before .mul2 .ensures) (exchanged-high j h (omega arith)) (omega (arith, high)) in
-    let same = low ∙ sym (scale-length ℕ words (u .r) t ∙ high) in
-    let second = plus-next s (scale ℕ words (u .r) t) j (c .add .ensures) (exchanged-low j h (omega arith) (omega arith)) multiple (omega (arith, low)) same in
-    (omega arith, exchanged-more j _ _ h (start .pre) (omega arith) (omega arith) first second)
+    let j = at .loop .i - 1 in let h = at .loop .inv .1 in
+    let high = high-size (u .b) (u .x .now) (start .pre) in
+    let first = scale-next (u .q) (drop (u .b) (u .x .now)) j (c .before .before .mul .ensures) (exchanged-high j h (omega arith)) (omega (arith, high)) in
+    let second = second-next (u .b) (u .r) j h (start .pre) (omega arith) (omega arith) in
+    (omega arith, exchanged-more j _ _ h (start .pre) (omega arith) (omega arith) first (search (second, needs)))
 
 same-length : tie.Need-same-length Inv-loop μ-loop
 same-length c = c .before .loop .inv .1 .same

@@ -1,23 +1,36 @@
 -- By the cases of the answer. Rests on Told.
-use mathlib.Core.Path.{ap, subst}
-use Prim.Native.Nat.{_≤_}
+use mathlib.Core.Path.{_≡_, refl, ap, subst, _∙_}
+use mathlib.Core.List.{List, [], _∷_}
+use Prim.Native.Nat.{ℕ, _+_, _*_, _≤_}
 use borrow.Author.Needs.{needs}
+use Rattle.refusals.specs.Refusals.{refusalNumber, refusalPlace}
+use Rattle.refusals.specs.declared.Refusal.{Refusal}
 use Rattle.perm_calls.specs.Calls.{countedReport}
+use Rattle.perm_calls.specs.declared.Counted.{Counted}
+use Rattle.perm_calls.specs.declared.Counted.the-variants.{Refused}
+use Rattle.hecke_c.specs.Returned.{wordOf, told}
 use Rattle.hecke_c.proofs.Told.{done-one, refused-told}
 use Rattle.hecke_c.proofs.returned.counted.Statement.{statement}
 use Rattle.hecke_c.proofs.returned.counted.Tie as tie
 
-refusal-requires : tie.Need-refusal-requires
-refusal-requires c κs = let told = c .before in
-    subst (λ a. countedReport a .place ≤ 4096) (told .counted2 .given .1) (told .before .before .before .pre)
+refused-near : {why : Refusal} (a : Counted) → a ≡ Refused why → countedReport a .place ≤ 4096 → refusalPlace why ≤ 4096
+refused-near a e h = subst (λ a. countedReport a .place ≤ 4096) e h
+
+refused-word : {why : Refusal} {w : ℕ} (a : Counted) → a ≡ Refused why → w ≡ refusalNumber why + 256 * refusalPlace why → w ≡ wordOf (countedReport a)
+refused-word {why} a e f = refused-told why [] [] (ap countedReport e) f .0
+
+-- the answer is then as it was
+refused-answer : {why : Refusal} {y : List ℕ} (a : Counted) (answer : List ℕ) → a ≡ Refused why → y ≡ answer
+    → y ≡ told (countedReport a) (countedReport a .count ∷ []) answer
+refused-answer {why} a answer e g = g ∙ refused-told why (countedReport a .count ∷ []) answer (ap countedReport e) refl .1
 
 returns : tie.Need-returns
 returns c = let put = c .before .before in done-one _ (ap countedReport (put .before .before .before .counted .given .1)) (put .put .ensures)
 
 returns-2 : tie.Need-returns-2
-returns-2 c = let told = c .before .before .counted2 .given in refused-told (told .0 .0) _ _ (ap countedReport (told .1)) (c .refusal .ensures)
+returns-2 c = (search (refused-word, needs), search (refused-answer, needs))
 
 pub counted-spec : {M : Type 1} → statement M
 counted-spec =
     tie.close
-    (tie.spec (λ c. search needs) (λ c κs. search needs) (λ c. search needs) refusal-requires (λ c. search needs) returns returns-2)
+    (tie.spec (λ c. search needs) (λ c κs. search needs) (λ c. search needs) (λ c κs. search (refused-near, needs)) (λ c. search needs) returns returns-2)

@@ -12,7 +12,7 @@ add-clear : tie.Need-add-clear
 add-clear c = omega (arith, inside (c .before .pre .0) (c .before .pre .1))
 
 part-clear-end : tie.Need-part-clear-end
-part-clear-end c = inside (c .before .pre .0) (c .before .pre .1)
+part-clear-end c = omega (arith, inside (c .before .pre .0) (c .before .pre .1))
 
 returns : tie.Need-returns
 unfolding zeros

@@ -1,6 +1,6 @@
 -- In each step of the loop one coefficient is written.
 use mathlib.Core.Path.{_≡_, refl}
-use Prim.Native.Nat.{_-_, _^_, _≤_, _<_}
+use Prim.Native.Nat.{_-_, _^_, _<_}
 use native.Mathlib.Omega.{arith}
 use lib.ListN.{length}
 use Rattle.lists.proofs.All.{all-index}
@@ -9,7 +9,7 @@ use Rattle.output.proofs.lines.put_coefficients.Statement.{statement}
 use Rattle.output.proofs.lines.put_coefficients.Tie as tie
 
 abbrev Inv-loop : tie.InvT-loop
-Inv-loop text₀ at h next₀ i₀ i-end text next i = (i ≤ i-end) × (i-end ≡ length h) × Listed at h text₀ text next i
+Inv-loop text₀ at h next₀ i₀ i-end text next i = Listed at h text₀ text next i × (i-end ≡ length h)
 
 abbrev μ-loop : tie.MeasureT-loop
 μ-loop text₀ at h next₀ i₀ i-end text next i = i-end - i
@@ -18,17 +18,17 @@ loop-holds : tie.Need-loop-holds Inv-loop μ-loop
 loop-holds c =
     let s0 = c .before .before in
     let words = all-index (λ x. x < 2 ^ 64) (s0 .args .h .now) 0 (λ i l. c .shared-slice-known .given i .fits) in
-    (omega arith, refl, listed-none (s0 .pre .0) words (s0 .pre .1))
+    (listed-none (s0 .pre .0) words (s0 .pre .1), refl)
 
 put-coefficient-requires : tie.Need-put-coefficient-requires Inv-loop μ-loop
-put-coefficient-requires c κs = listed-room (c .before .before .before .loop .inv .2) (omega arith)
+put-coefficient-requires c κs = listed-room (c .before .before .before .loop .inv .0) (omega arith)
 
 loop-again : tie.Need-loop-again Inv-loop μ-loop
 loop-again c = let after = c .before .before in
-    (omega arith, refl, listed-more (after .before .before .before .before .loop .inv .2) (omega arith) (after .put-coefficient .ensures))
+    (listed-more (after .before .before .before .before .loop .inv .0) (omega arith) (after .put-coefficient .ensures), refl)
 
 pub put-coefficients-spec : {M : Type 1} → statement M
 put-coefficients-spec =
     tie.close
     (tie.spec Inv-loop μ-loop loop-holds (λ c. omega arith) (λ c. omega arith) put-coefficient-requires (λ c. omega arith) (λ c. omega arith) loop-again
-    (λ c. listed-size (c .before .loop .inv .2)) (λ c. listed-all (c .before .loop .inv .2) (omega arith)))
+    (λ c. listed-size (c .before .loop .inv .0)) (λ c. listed-all (c .before .loop .inv .0) (omega arith)))
