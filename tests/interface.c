@@ -436,8 +436,8 @@ static void empty_answers(void) {
     REFUSED(hecke_sum(2, LEFT(h), RIGHT(h), WORDS(2), EMPTY), 2, 0);
     GIVES(hecke_scale(1, 5, LEFT(h), WORDS(2), EMPTY), WORDS_ARE(0, 5));
     REFUSED(hecke_scale(7, 5, LEFT(h), WORDS(2), EMPTY), 1, 0);
-    GIVES(hecke_act_word(1, 0, LIST(letter), WORDS(2), EMPTY), WORDS_ARE(0, 0));
-    REFUSED(hecke_act_word(1, 0, LIST(other), WORDS(2), EMPTY), 4, 0);
+    GIVES(hecke_act_word(1, 3, LIST(letter), WORDS(2), EMPTY), WORDS_ARE(3 * PATTERN_WORD, 3 * PATTERN_WORD));
+    REFUSED(hecke_act_word(1, 3, LIST(other), WORDS(2), EMPTY), 4, 0);
     GIVES(hecke_product(1, 3, LEFT(h), RIGHT(h), WORDS(2), SCRATCH(14), EMPTY), WORDS_ARE(3, 2), CLEARED(14));
     REFUSED(hecke_product(1, 3, LEFT(h), RIGHT(h), WORDS(2), SCRATCH(13), EMPTY), 3, 0);
     GIVES(hecke_run_sheet(LIST(example), REGISTERS(2880), EMPTY), ZEROS, REGISTER_IS(0, 3, 2));
@@ -458,8 +458,9 @@ static void answers_of(size_t room) {
     REFUSED(hecke_sum(1, LEFT(h), RIGHT(h), WORDS(1), ANSWER_OF(room)), 2, 0);
     GIVES(hecke_scale(1, 5, LEFT(h), WORDS(2), ANSWER_OF(room)), WORDS_ARE(0, 5), ANSWERS(2));
     REFUSED(hecke_scale(1, 5, LEFT(h), WORDS(1), ANSWER_OF(room)), 2, 0);
-    GIVES(hecke_act_word(1, 0, LIST(letter), WORDS(2), ANSWER_OF(room)), WORDS_ARE(0, 0), ANSWERS(3));
-    REFUSED(hecke_act_word(1, 0, LIST(bad), WORDS(2), ANSWER_OF(room)), 4, 0);
+    GIVES(hecke_act_word(1, 3, LIST(letter), WORDS(2), ANSWER_OF(room)),
+          WORDS_ARE(3 * PATTERN_WORD, 3 * PATTERN_WORD), ANSWERS(3));
+    REFUSED(hecke_act_word(1, 3, LIST(bad), WORDS(2), ANSWER_OF(room)), 4, 0);
     GIVES(hecke_product(1, 3, LEFT(h), RIGHT(h), WORDS(2), SCRATCH(14), ANSWER_OF(room)),
           WORDS_ARE(3, 2), CLEARED(14), ANSWERS(9));
     REFUSED(hecke_product(1, 3, LEFT(h), RIGHT(h), WORDS(2), SCRATCH(13), ANSWER_OF(room)), 3, 0);

@@ -305,6 +305,9 @@ def framed(width, height, lines):
 
 
 def main():
+    if set(sys.argv[1:]) - {'--check', '--seconds'}:
+        print(__doc__, file=sys.stderr)
+        return 2
     crates = listed()
     page = PAGE.read_text(encoding='utf-8')
     made = {PICTURE: drawn(crates), PAGE: with_table(page, crates, '--seconds' in sys.argv)}

@@ -30,10 +30,9 @@ All results, and the scratch after a product, are compared before the clock star
 on the same of eight random inputs; a time is the mean over a batch of calls, the least over all rounds with the median in
 brackets. Result slices hold what the call before left: nothing is cleared for a call. Every product clears the first (m + 6) M
 words of its scratch at its end, as document 01 asks, and this is timed. A word's element is copied from the input first, which
-is timed too. Of one point nothing is converted: these rows are what a call costs by itself, its checks, its returned word and
-its slices, which pass through memory. At 4 points it is a large part of the time, and the ratio of tower to image list there
-changes with the layout of both programs: runs before this page gave 1.2 to 1.8, at 9 to 12 ns for (a), and once 1.44 at 8 points.
-So that aim is met at 4 points in some builds and missed in others, by some nanoseconds. A sheet is one process: its start and both
+is timed too. Of one point nothing is converted: these rows are what a call costs by itself, its checks and its returned word.
+Up to 8 points it is a large part of the time, and the ratios there change with the layout of both programs: builds before this
+page gave 1.2 to 1.8 for tower to image list at 4 points, at 9 to 12 ns for (a). A sheet is one process: its start and both
 pipes are timed. Ratios are those of the least times.
 
 ## What the inner loops compile to
@@ -49,8 +48,8 @@ Read off the archive, which is for any x86-64 processor:
 - The check of an image list and the making of a tower have a shift, a test or an addition for each image; the set bits are
   counted by shifts, masks and a multiplication, since not every such processor has an instruction for it.
 - The images of a tower are made by vector code, 16 bytes at a time.
-- What a call costs beside plain Rust is its frame: slices pass through memory, and the size of a block is a jump at each
-  level.
+- The functions of the recursion take more slices and numbers than there are registers for them, so that some pass through
+  memory, and the size of a block is a jump at each level.
 ";
 
 fn time(times: Option<&Times>) -> String {
@@ -85,14 +84,10 @@ pub fn table(rows: &[Row]) -> String {
     format!("{heads}\n{rule}\n{}\n", lines.join("\n"))
 }
 
-/// The sizes for which the conversions have an aim.
-const CONVERTED: &str = " at 4 points and more; the row of one point, where nothing is converted, is what a call costs by \
-                         itself and has no aim";
-
 /// The aims, with what was measured and whether it holds.
 pub fn aims(rows: &[Row]) -> String {
     let largest = |call: &str| {
-        let sizes = rows.iter().filter(|row| row.call == call && row.size != "1 point");
+        let sizes = rows.iter().filter(|row| row.call == call);
         let ratios = sizes.filter_map(|row| row.ratio(0, 1));
         ratios.fold(0.0, f64::max)
     };
@@ -100,14 +95,14 @@ pub fn aims(rows: &[Row]) -> String {
     let (same, lists) = (product.ratio(0, 1).unwrap(), product.ratio(2, 0).unwrap());
     let (to_tower, to_images) = (largest("image list to tower"), largest("tower to image list"));
     let aims = [
-        ("product of rank 6: library / (a) at most 1.5", "", same, same <= 1.5),
-        ("product of rank 6: (b) / library at least 2", "", lists, lists >= 2.0),
-        ("image list to tower: library / (a) at most 1.5", CONVERTED, to_tower, to_tower <= 1.5),
-        ("tower to image list: library / (a) at most 1.5", CONVERTED, to_images, to_images <= 1.5),
+        ("product of rank 6: library / (a) at most 1.5", same, same <= 1.5),
+        ("product of rank 6: (b) / library at least 2", lists, lists >= 2.0),
+        ("image list to tower: library / (a) at most 1.5 at each size", to_tower, to_tower <= 1.5),
+        ("tower to image list: library / (a) at most 1.5 at each size", to_images, to_images <= 1.5),
     ];
     let mut text = String::from("| aim | measured | holds |\n|---|---|---|\n");
-    for (aim, sizes, measured, holds) in aims {
-        writeln!(text, "| {aim}{sizes} | {measured:.2} | {} |", if holds { "yes" } else { "no" }).unwrap();
+    for (aim, measured, holds) in aims {
+        writeln!(text, "| {aim} | {measured:.2} | {} |", if holds { "yes" } else { "no" }).unwrap();
     }
     text
 }
