@@ -16,7 +16,7 @@ crate.proofs.name, folder/file:name. A field of a record counts where nothing el
 
 Checked: every label is declared, in one file, and of a kind that its column asks for; every row has its header's cells; every
 must-fail edit is on the page; the table of public functions has one row for each of them, with definitions that its contract
-cites and two wrong answers; every public function has a contract for all inputs; and the links are those of the labels.
+cites and two wrong answers, which are edits of code; every public function has a contract for all inputs; and the links are those of the labels.
 """
 import re
 import sys
@@ -45,6 +45,7 @@ LINKS = '<!-- the links: all that follows is made by tools/check_claims.py --wri
 # cells without names: nothing carries the rule, or the table of public functions does
 NOTHING, ALL, HEADING = '☐', '[all](#public-functions)', '\n## Public functions\n'
 MAY_BE_ALL = {'definition', 'contract', 'must-fail edit'}
+EDITS = {'code edit', 'definition edit'}
 # the kinds of names under a column
 COLUMNS = {
     'rule': None,
@@ -52,10 +53,10 @@ COLUMNS = {
     'definition': {'definition', 'type'},
     'contract': {'function', 'type'},
     'theorem': {'theorem'},
-    'must-fail edit': {'edit'},
+    'must-fail edit': EDITS,
     'public function': {'function'},
     'promised by': {'definition'},
-    'wrong answers': {'edit'},
+    'wrong answers': {'code edit'},
 }
 
 # ---- declarations
@@ -76,7 +77,7 @@ LOGIC = re.compile(
 FORMS = [
     (re.compile(r'(\w+)((?:::\w+)*)::(\w+)'), {'function', 'type'}),
     (re.compile(r'(\w+)((?:\.\w+)*)\.([^.]+)'), {'definition', 'theorem'}),
-    (re.compile(r'(\w+)()!(\w+)'), {'edit'}),
+    (re.compile(r'(\w+)()!(\w+)'), EDITS),
     (re.compile(r'()((?:\w+/)*\w+):(\w+)'), {'test'}),
 ]
 # a public function, and what stands between its name and its body
@@ -113,7 +114,8 @@ def declarations(root):
             for name, field in logic_names(path.read_text(encoding='utf-8')):
                 yield Declared(kind, name, path.relative_to(root), field)
     for path in root.glob('crates/*/must-fail/*.edit'):
-        yield Declared('edit', path.stem, path.relative_to(root))
+        of_code = '\nfile: src/' in path.read_text(encoding='utf-8')
+        yield Declared('code edit' if of_code else 'definition edit', path.stem, path.relative_to(root))
 
 
 def declared(root):
@@ -259,7 +261,7 @@ def contract_faults(rows, public, exempt):
 
 def edit_faults(meant, names):
     cited = {one for found in meant.values() for one in found}
-    for one in sorted(one for found in names.values() for one in found if one.kind == 'edit'):
+    for one in sorted(one for found in names.values() for one in found if one.kind in EDITS):
         if one not in cited:
             yield f'{one.path} is not on the page'
 

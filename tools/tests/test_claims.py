@@ -36,8 +36,8 @@ abbrev pub _then_ : ℕ → ℕ → ℕ
 ''',
     'crates/pair/specs/Maps.antt': 'pub record Maps (f : ℕ → ℕ) : Type 0 where\n  pub firstOf : ℕ\n  pub kept : ℕ\n',
     'crates/pair/proofs/Pairs.antt': 'pub swaps : Swaps\n\npub swap : ℕ\n',
-    'crates/pair/must-fail/second_returned.edit': '# the second\n',
-    'crates/pair/must-fail/zero_returned.edit': '# zero\n',
+    'crates/pair/must-fail/second_returned.edit': '# the second\nfile: src/lib.rt\n',
+    'crates/pair/must-fail/zero_returned.edit': '# zero\nfile: src/lib.rt\n',
     'crates/io/src/lib.rt': 'pub fn read() -> u64 {\n    0\n}\n',
     'reference/tests/test_pair.py': 'class Pairs:\n    def test_first(self):\n        pass\n',
 }
@@ -147,7 +147,7 @@ class Tables(Claims):
                                 ('[`pair.firstOf`], [`pair::Pair`]', '[`pair::kept`]', 'function, stands under definition'),
                                 ('[`pair::first`], [`pair::kept`]', '[`pair.firstOf`]', 'definition, stands under contract'),
                                 ('[`pair.proofs.swaps`]', '[`pair.Swaps`]', 'definition, stands under theorem'),
-                                ('[`test_pair:test_first`]', '[`pair!zero_returned`]', 'edit, stands under test')):
+                                ('[`test_pair:test_first`]', '[`pair!zero_returned`]', 'code edit, stands under test')):
             line = 6 if 'swaps' in old else 5
             self.assertEqual(self.changed(old, new), [f'line {line}: {new[2:-2]}, a {fault}'])
 
@@ -189,6 +189,10 @@ class PublicFunctions(Claims):
             self.assertEqual(self.found(page, listed), [])
         self.assertEqual(self.found(GOOD, listed),
                          ['pair::first is listed, and no function of that name lacks two wrong answers'])
+
+    def test_wrong_answer_of_a_changed_definition(self):
+        self.put('crates/pair/must-fail/zero_returned.edit', '# zero\nfile: specs/Pairs.antt\n')
+        self.assertEqual(self.found(GOOD), ['line 13: pair!zero_returned, a definition edit, stands under wrong answers'])
 
     def test_definition_that_is_not_cited(self):
         self.assertEqual(self.changed('[`pair._then_`]', '[`pair.specs.swap`]'), ['pair::first does not cite swap'])
