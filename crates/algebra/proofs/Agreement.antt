@@ -35,16 +35,16 @@ abbrev counted : Vector → ℕ
 counted (vector m l q h g k n) = operations (nested ℕ words q (minusOne ℕ words q) m l h g .count)
 
 pub products : map defined vectors ≡ map result vectors
-unfolding modular words same less range tally product identity swap generator ofWord below len above entry towerOf cycle cycles standard
+unfolding modular same less range tally product identity swap generator ofWord below len above entry towerOf cycle cycles standard
     factorial series blocks place join perms coefficient element plus scale sumOver minusOne letter act times
 products = refl
 
 pub method-products : map method vectors ≡ map result vectors
-unfolding modular words factorial plus scale minusOne block both free onward _⧺_ row _⊞_ _⊠_ sumRow part level nestedAct nested
+unfolding modular factorial plus scale minusOne block both free onward _⧺_ row _⊞_ _⊠_ sumRow part level nestedAct nested
 method-products = refl
 
 pub method-counts : map counted vectors ≡ map count vectors
-unfolding modular words factorial plus scale minusOne block both free onward _⧺_ row _⊞_ _⊠_ sumRow part level nestedAct nested operations
+unfolding modular factorial plus scale minusOne block both free onward _⧺_ row _⊞_ _⊠_ sumRow part level nestedAct nested operations
 method-counts = refl
 
 pub recursions : map recursion vectors ≡ map count vectors

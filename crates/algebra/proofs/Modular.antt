@@ -40,29 +40,25 @@ module _ (N : ℕ) (pos : 0 < N) (m q r : ℕ) (hq : q < N) (hr : r < N) where
 -- ---- words
 
 below : (q : ℕ) → minusOne ℕ words q < 2 ^ 64
-unfolding minusOne words modular
+unfolding minusOne modular
 below q = mod-lt _ words-pos
 
 one-less : (q : ℕ) → q < 2 ^ 64 → words .add (minusOne ℕ words q) (words .one) ≡ q
-unfolding minusOne words modular
+unfolding minusOne modular
 one-less q h = omega arith
 
 module _ (m q : ℕ) (hq : q < 2 ^ 64) where
   word-laws : Laws ℕ words q (minusOne ℕ words q) (λ n. n < 2 ^ 64) m (defined ℕ words q (minusOne ℕ words q) m)
-  unfolding words
   word-laws = modular-laws (2 ^ 64) words-pos m q (minusOne ℕ words q) hq (below q)
 
   pub word-hecke : Hecke ℕ words q (minusOne ℕ words q) (λ n. n < 2 ^ 64) m (defined ℕ words q (minusOne ℕ words q) m)
   word-hecke = record { minus-one = one-less q hq; laws = word-laws }
 
   pub word-formula : Formula ℕ words q (minusOne ℕ words q) (λ n. n < 2 ^ 64) m
-  unfolding words
   word-formula = modular-formula (2 ^ 64) words-pos m q (minusOne ℕ words q) hq (below q)
 
   pub word-method : Method ℕ words q (minusOne ℕ words q) (λ n. n < 2 ^ 64) m
-  unfolding words
   word-method = modular-method (2 ^ 64) words-pos m q (minusOne ℕ words q) hq (below q)
 
   pub word-closed : Closed ℕ words (λ n. n < 2 ^ 64) m (defined ℕ words q (minusOne ℕ words q) m)
-  unfolding words
   word-closed = modular-closed (2 ^ 64) words-pos m q (minusOne ℕ words q) hq (below q)

@@ -121,7 +121,7 @@ module _ {A B : Type 0} {o : Ops A} {p : Ops B} {f : A → B} (H : Hom A B o p f
 -- ---- words
 
 pub word-pairing-zero : (q : ℕ) (a b : List ℕ) → pairing ℕ words q 0 a b ≡ words .mul (getD a 0 0) (getD b 0 0)
-unfolding pairing perms identity range len below tally place series coefficient sum power words modular
+unfolding pairing perms identity range len below tally place series coefficient sum power modular
 word-pairing-zero q a b = omega arith
 
 pub word-pairing-blocks : (q m : ℕ) → q < 2 ^ 64 → (a b : List ℕ) → Element (λ n. n < 2 ^ 64) (suc m) a → Element (λ n. n < 2 ^ 64) (suc m) b

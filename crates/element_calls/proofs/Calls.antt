@@ -1,19 +1,19 @@
 -- How a call ends that no check refuses, and what a product counts. Rests on refusals' Ended and algebra's Counts.
 use mathlib.Core.Path.{_≡_, refl, ap, _∙_}
 use mathlib.Core.List.{List}
-use Prim.Native.Nat.{ℕ, _^_, _<_}
+use Prim.Native.Nat.{ℕ}
 use native.Mathlib.Omega.{arith}
-use Rattle.ring.specs.Modular.{words}
 use Rattle.refusals.specs.Refusals.{accepted, ended}
 use Rattle.refusals.specs.declared.Verdict.{Verdict}
 use Rattle.refusals.specs.declared.Verdict.the-variants.{Accepted, Refused}
 use Rattle.refusals.specs.declared.Answer.{Answer}
 use Rattle.refusals.proofs.Ended.{ended-done}
 use Rattle.algebra.specs.Element.{Element}
-use Rattle.algebra.specs.Product.{minusOne}
 use Rattle.algebra.specs.Nested.{operations, nested}
 use Rattle.algebra.specs.Cost.{C}
 use Rattle.algebra.proofs.Counts.{counts}
+use Rattle.element_calls.specs.declared.Parameters.{Parameters}
+use Rattle.element_calls.specs.Coefficients.{ring, Coefficient}
 use Rattle.element_calls.specs.Calls.{write}
 
 module _ {A : Type 0} where
@@ -26,6 +26,6 @@ module _ {A : Type 0} where
   write-verdict Accepted old new n = refl
   write-verdict (Refused why) old new n = refl
 
-pub product-counted : {m : ℕ} {h g : List ℕ} → Element (λ n. n < 2 ^ 64) m h → Element (λ n. n < 2 ^ 64) m g → (q : ℕ)
-    → operations (nested ℕ words q (minusOne ℕ words q) m m h g .count) ≡ C m m
-product-counted {m} {h} {g} eh eg q = counts ℕ words q (minusOne ℕ words q) (λ n. n < 2 ^ 64) m .count m (omega arith) h g eh eg
+pub product-counted : {m : ℕ} {h g : List ℕ} (p : Parameters) → Element (Coefficient p) m h → Element (Coefficient p) m g
+    → operations (nested ℕ (ring p) (p .q) (p .r) m m h g .count) ≡ C m m
+product-counted {m} {h} {g} p eh eg = counts ℕ (ring p) (p .q) (p .r) (Coefficient p) m .count m (omega arith) h g eh eg

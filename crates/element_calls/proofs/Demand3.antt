@@ -16,12 +16,14 @@ use Rattle.refusals.specs.declared.Verdict.the-variants.{Accepted}
 use Rattle.perms.specs.Permutation.{Perm, below, len, Word, Shortest}
 use Rattle.perms.proofs.Reduced.{short-perm}
 use Rattle.algebra.specs.Element.{plus, scale}
-use Rattle.algebra.specs.Product.{minusOne, act, times}
+use Rattle.algebra.specs.Product.{act, times}
 use Rattle.algebra.specs.Nested.{operations, nested}
 use Rattle.algebra.specs.Cost.{bound}
 use Rattle.algebra.specs.Laws.{defined}
 use Rattle.algebra.proofs.Modular.{word-hecke, word-closed}
 use Rattle.algebra.proofs.Bounds.{bounds}
+use Rattle.element_calls.specs.declared.Parameters.{Parameters}
+use Rattle.element_calls.specs.Coefficients.{modulus, ring, parametersOf}
 use Rattle.element_calls.specs.Calls.{rankVerdict, sizeVerdict, scratchVerdict, wordVerdict, sumCall, scaleCall, actWordCall, productCall}
 use Rattle.element_calls.specs.Demand3.{E, Taken, Demand3}
 use Rattle.element_calls.proofs.Verdicts.{rank-taken, size-taken, scratch-taken, word-taken}
@@ -54,6 +56,9 @@ module _ (m c : ℕ) (h result : List ℕ) where
   scale-lent t = rw (sym scale-verdict ∙ t) refl
 
 module _ (m q : ℕ) (x h : List ℕ) where
+  abbrev p : Parameters
+  p = parametersOf q
+
   abbrev actChecks : Verdict
   actChecks = rankVerdict m then sizeVerdict m (length h) then wordVerdict m x
 
@@ -61,7 +66,7 @@ module _ (m q : ℕ) (x h : List ℕ) where
   unfolding actWordCall
   act-verdict = write-verdict actChecks _ _ _
 
-  act-lent : Taken (actWordCall m q x h .answer) → actWordCall m q x h .lent ≡ act ℕ words q (minusOne ℕ words q) m x h
+  act-lent : Taken (actWordCall m q x h .answer) → actWordCall m q x h .lent ≡ act ℕ (ring p) (p .q) (p .r) m x h
   unfolding actWordCall ended
   act-lent t = rw (sym act-verdict ∙ t) refl
 
@@ -79,12 +84,12 @@ module _ (m q : ℕ) (h g result scratch : List ℕ) where
   product-verdict = write-verdict productChecks _ _ _
 
   pub product-lent : Taken (productCall m q h g result scratch .answer)
-      → productCall m q h g result scratch .lent .result ≡ times ℕ words q (minusOne ℕ words q) m m h g
+      → let p = parametersOf q in productCall m q h g result scratch .lent .result ≡ times ℕ (ring p) (p .q) (p .r) m m h g
   unfolding productCall ended
   product-lent t = rw (sym product-verdict ∙ t) refl
 
   product-counts : Taken (productCall m q h g result scratch .answer)
-      → productCall m q h g result scratch .answer .count ≡ operations (nested ℕ words q (minusOne ℕ words q) m m h g .count)
+      → let p = parametersOf q in productCall m q h g result scratch .answer .count ≡ operations (nested ℕ (ring p) (p .q) (p .r) m m h g .count)
   unfolding productCall ended
   product-counts t = rw (sym product-verdict ∙ t) refl
 
@@ -103,9 +108,9 @@ shortest-few {m} {x} {w} h s =
 -- ---- the claim
 
 pub demand-3 : Demand3
-unfolding bound
+unfolding bound modulus
 demand-3 m q rank hq = record {
-  calls = defined ℕ words q (minusOne ℕ words q) m;
+  calls = defined ℕ words q (parametersOf q .r) m;
   sum-taken = λ h g result a b c. sum-verdict m h g result ∙ rw (fits, size a, size b, size-taken m (length result) rank c) refl;
   scale-taken = λ c h result a b. scale-verdict m c h result ∙ rw (fits, size a, size-taken m (length result) rank b) refl;
   act-taken = takes;
@@ -120,7 +125,7 @@ demand-3 m q rank hq = record {
   word-taken = λ w x h s a. takes x h (s .word) (shortest-few rank s) a;
   word-count = λ w x h s a.
       act-counted m q x h (takes x h (s .word) (shortest-few rank s) a) ∙ mul-comm (length x) each ∙ ap (λ n. each * n) (sym (s .short));
-  product-count = λ h g result scratch a b t. product-counts m q h g result scratch t ∙ product-counted a b q;
+  product-count = λ h g result scratch a b t. product-counts m q h g result scratch t ∙ product-counted (parametersOf q) a b;
   bound = omega (arith, bounds m m (omega arith) rank);
 }
   where
@@ -130,8 +135,8 @@ demand-3 m q rank hq = record {
     fits : rankVerdict m ≡ Accepted
     fits = rank-taken m rank
 
-    size : {h : List ℕ} → E m h → sizeVerdict m (length h) ≡ Accepted
+    size : {h : List ℕ} → E m q h → sizeVerdict m (length h) ≡ Accepted
     size {h} a = size-taken m (length h) rank (a .size)
 
-    takes : (x h : List ℕ) → Word m x → length x ≤ 4096 → E m h → Taken (actWordCall m q x h .answer)
+    takes : (x h : List ℕ) → Word m x → length x ≤ 4096 → E m q h → Taken (actWordCall m q x h .answer)
     takes x h w n a = act-verdict m q x h ∙ rw (fits, size a, word-taken m x w n) refl

@@ -23,9 +23,10 @@ use Rattle.refusals.specs.declared.Refusal.the-variants.{Rank, Size, Scratch, W
 use Rattle.refusals.specs.declared.Verdict.{Verdict}
 use Rattle.refusals.specs.declared.Answer.{Answer}
 use Rattle.algebra.specs.Element.{plus, scale}
-use Rattle.algebra.specs.Product.{minusOne, act, times}
+use Rattle.algebra.specs.Product.{act, times}
 use Rattle.algebra.specs.Nested.{operations, nested}
 use Rattle.ranks.specs.Ranks.{size, needed, scratchSize}
+use Rattle.element_calls.specs.Coefficients.{ring, parametersOf}
 
 -- ---- the checks
 
@@ -69,15 +70,16 @@ scaleCall m c h result =
 
 unfoldable pub actWordCall : (m q : ℕ) (x h : List ℕ) → Outcome Answer (List ℕ)
 actWordCall m q x h =
+    let p = parametersOf q in
     write (rankVerdict m then sizeVerdict m (length h) then wordVerdict m x)
     h
-    (act ℕ words q (minusOne ℕ words q) m x h)
+    (act ℕ (ring p) (p .q) (p .r) m x h)
     (length x * (3 * factorial (suc m) / 2))
 
 unfoldable pub productCall : (m q : ℕ) (h g result scratch : List ℕ) → Outcome Answer Buffers
 productCall m q h g result scratch =
-    let r = minusOne ℕ words q in
+    let p = parametersOf q in
     write (rankVerdict m then sizeVerdict m (length h) then sizeVerdict m (length g) then sizeVerdict m (length result) then scratchVerdict m (length scratch))
     (record { result = result; scratch = scratch })
-    (record { result = times ℕ words q r m m h g; scratch = replicate (needed m) 0 ++ drop (needed m) scratch })
-    (operations (nested ℕ words q r m m h g .count))
+    (record { result = times ℕ (ring p) (p .q) (p .r) m m h g; scratch = replicate (needed m) 0 ++ drop (needed m) scratch })
+    (operations (nested ℕ (ring p) (p .q) (p .r) m m h g .count))

@@ -1,3 +1,4 @@
+pub mod Coefficients
 pub mod Calls
 pub mod Claims
 pub mod Demand3

@@ -1,16 +1,24 @@
-// What the four element calls check and answer: the checks, and q - 1. What a call answers and writes is defined in specs/Calls;
-// the work itself is in `linear` and `hecke`.
+// What the four element calls check and answer: the checks, and the parameters of the algebra. What a call answers and writes is
+// defined in specs/Calls; the work itself is in `linear` and `hecke`.
 
 ghost use mathlib.Core.Path.{_≡_};
-ghost use Rattle.ring.specs.Modular.{words};
-ghost use Rattle.algebra.specs.Product.{minusOne};
+ghost use Rattle.element_calls.specs.Coefficients.{parametersOf};
 
 pub mod checks;
 
-// q - 1, modulo 2^64.
-// Example: for q = 0 it is 2^64 - 1.
-pub fn minus_one(q: u64) -> u64
-    ensures { λ r. ⌜ r ≡ minusOne _ words q ⌝ }
+// The parameters of the algebra: q, and r = q - 1.
+pub struct Parameters {
+    pub q: u64,
+    pub r: u64,
+}
+
+// The parameters of the algebra with q, modulo 2^64.
+// Example: for q = 0, r is 2^64 - 1.
+pub fn parameters_of(q: u64) -> Parameters
+    ensures { λ p. ⌜ p ≡ parametersOf q ⌝ }
 {
-    ring::add(q, 0xffff_ffff_ffff_ffff)
+    Parameters {
+        q,
+        r: ring::add(q, 0xffff_ffff_ffff_ffff),
+    }
 }

@@ -76,7 +76,7 @@ unfolding factorial
 size-one l e = ap (λ (n : ℕ). factorial (suc n)) e
 
 multiplied-zero : (q r m l : ℕ) (h g : List ℕ) → l ≡ 0 → scale ℕ words (getD g 0 0) h ≡ multiplied q r m l h g
-unfolding multiplied nested _⊠_ free words modular
+unfolding multiplied nested _⊠_ free modular
 multiplied-zero q r m zero h g e = refl
 multiplied-zero q r m (suc l) h g e = absurd (omega arith)
 

@@ -25,11 +25,10 @@ act-last q r m (k ∷ word) i x = act-last q r m word i (letter ℕ words q r m 
 
 module _ {q r : ℕ} (hq : q < 2 ^ 64) (hr : r < 2 ^ 64) {m : ℕ} where
   letter-acted : {i : ℕ} {x : List ℕ} → Letter m i → Element (λ n. n < 2 ^ 64) m x → acted q r m i 1 x ≡ act ℕ words q r m (i ∷ []) x
-  unfolding acted words cycle
+  unfolding acted cycle
   letter-acted {i} {x} l e = modular-method (2 ^ 64) words-pos m q r hq hr .act-value i 1 (l .low) (l .high) x e
 
   act-element : (word : List ℕ) {x : List ℕ} → Element (λ n. n < 2 ^ 64) m x → Element (λ n. n < 2 ^ 64) m (act ℕ words q r m word x)
-  unfolding words
   act-element word {x} e = modular-closed (2 ^ 64) words-pos m q r hq hr .act word x e
 
 pub record Acting (q r m : ℕ) (word x₀ x : List ℕ) (i : ℕ) : Type 0 where

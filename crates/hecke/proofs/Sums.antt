@@ -13,7 +13,7 @@ use Rattle.hecke.specs.Steps.{sums, collected}
 -- ---- they commute
 
 add-words-comm : (a b : ℕ) → words .add a b ≡ words .add b a
-unfolding words modular
+unfolding modular
 add-words-comm a b = rw (add-comm a b) refl
 
 pub plus-comm : (h g : List ℕ) → plus ℕ words h g ≡ plus ℕ words g h

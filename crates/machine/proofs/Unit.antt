@@ -15,7 +15,7 @@ use Rattle.machine.proofs.Put.{put-set, inside}
 
 -- 1 at the front of a register of zeros
 pub put-unit : {m size r : ℕ} {x : List ℕ} → Registers m size x → r < 4 → set (put r (zeros m) x) (720 * r) 1 ≡ put r (unit ℕ words m) x
-unfolding zeros words modular
+unfolding zeros modular
 put-unit {m} {size} {r} {x} z four =
     ap (λ i. set (put r (zeros m) x) i 1) (sym (add-zero (720 * r)))
     ∙ put-set r 0 1 (zeros m) x (omega (arith, inside z four)) (omega (arith, length-replicate {A = ℕ} (factorial (suc m)) 0, positive m))

@@ -25,7 +25,7 @@ use Rattle.output.specs.Printed.{text, texts, printed}
 use Rattle.marked.specs.Table.{Holds, table}
 
 pub marked : All Holds table
-unfolding modular words same less range tally product identity swap generator ofWord below len above entry towerOf cycle cycles standard
+unfolding modular same less range tally product identity swap generator ofWord below len above entry towerOf cycle cycles standard
     ofCycles imagesOf factorial series block blocks place join perms coefficient element plus scale sumOver basis unit minusOne letter
     act times operations both free onward _⧺_ row _⊞_ _⊠_ sumRow part level nestedAct nested cLine c C rankVerdict size sizeVerdict needed scratchSize scratchVerdict
     productCall byte number width known command decode rank parameter isEnd inOrder isRegister operandsInRange inRange placedFrom placed firstRefusal

@@ -66,7 +66,7 @@ module _ {m : ℕ} {a b : List ℕ} (c : PairingPre m a b) (some : 0 < m) where
 
 pub summed-none : (q m : ℕ) {a b : List ℕ} → PairingPre m a b → 0 < m → q < 2 ^ 64 → ((i : ℕ) → Fits w64 (getD a i 0)) → ((i : ℕ) → Fits w64 (getD b i 0))
     → Summed q m (blockSize m a) a b 0 (m + 1)
-unfolding words modular
+unfolding modular
 summed-none q zero c some h f g = absurd (omega arith)
 summed-none q (suc n) {a} {b} c some h f g =
     let blocks : suc n + 1 ≡ n + 2 = omega arith in

@@ -29,7 +29,7 @@ abbrev Word : ℕ → Type 0
 Word n = n < 2 ^ 64
 
 sum-word : {B : Type 0} (s : List B) (f : B → ℕ) → Word (sum ℕ words s f)
-unfolding sum words modular
+unfolding sum modular
 sum-word [] f = omega arith
 sum-word (x ∷ s) f = mod-lt (f x + sum ℕ words s f) (omega arith)
 

@@ -75,5 +75,4 @@ pub words-ring : Ring (Residue (2 ^ 64)) (residues (2 ^ 64) words-pos)
 words-ring = residues-ring (2 ^ 64) words-pos
 
 pub words-hom : Hom (Residue (2 ^ 64)) ℕ (residues (2 ^ 64) words-pos) words (number (2 ^ 64))
-unfolding words
 words-hom = number-hom (2 ^ 64) words-pos

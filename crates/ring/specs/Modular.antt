@@ -18,7 +18,7 @@ modular N = record {
   neg = λ a. (N - a % N) % N;
 }
 
-unfoldable pub words : Ops ℕ
+abbrev pub words : Ops ℕ
 words = modular (2 ^ 64)
 
 abbrev pub Residue : ℕ → Type 0

@@ -5,7 +5,7 @@ use Rattle.ring.proofs.add.Statement.{statement}
 use Rattle.ring.proofs.add.Tie as tie
 
 returns : tie.Need-returns
-unfolding words modular
+unfolding modular
 returns c = c .wrapping-add-u64 .ensures
 
 pub add-spec : {M : Type 1} → statement M

@@ -23,7 +23,7 @@ mul-add : tie.Need-mul-add
 mul-add c = omega (arith, mask-lt (c .add .result) 32)
 
 returns : tie.Need-returns
-unfolding words modular
+unfolding modular
 returns c = let u = c .before .before .args in
     c .add2 .ensures
     ∙ ap (λ (s : ℕ). (bitAnd s 0xffff_ffff * 2 ^ 32 + bitAnd (u .a) 0xffff_ffff * bitAnd (u .b) 0xffff_ffff) % 2 ^ 64) (c .before .add .ensures)

@@ -1,0 +1,24 @@
+-- The ring of the coefficients and the parameters of the algebra, as one value (document 01, "Elements and their product"). Code and contracts hand
+-- on a struct `Parameters` of q and r.
+--
+--   modulus p        the modulus of sums and products of coefficients: 2^64
+--   ring p           the operations on coefficients
+--   Coefficient p x  x is a coefficient: a number below the modulus
+--   parametersOf q   q, and r = q - 1
+use Prim.Native.Nat.{ℕ, _^_, _<_}
+use Rattle.ring.specs.Ring.{Ops}
+use Rattle.ring.specs.Modular.{modular, words}
+use Rattle.algebra.specs.Product.{minusOne}
+use Rattle.element_calls.specs.declared.Parameters.{Parameters}
+
+unfoldable pub modulus : Parameters → ℕ
+modulus p = 2 ^ 64
+
+abbrev pub ring : Parameters → Ops ℕ
+ring p = modular (modulus p)
+
+abbrev pub Coefficient : Parameters → ℕ → Type 0
+Coefficient p x = x < modulus p
+
+abbrev pub parametersOf : ℕ → Parameters
+parametersOf q = record { q = q; r = minusOne ℕ words q }
