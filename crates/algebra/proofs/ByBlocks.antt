@@ -58,8 +58,8 @@ module _ (A : Type 0) (o : Ops A) (f : OnPair A) (m j : ℕ) (h : List A) (jm : 
   has-b : (k : ℕ) → k ≤ suc m → Has A o m (b k) (blockAt (m + 2 - k) F)
   has-b k n = extended k (has-own A o e) n
 
-  pub before : (k : ℕ) → k < a → X k ≡ onPairs A o f m (suc j) (b k)
-  before k n =
+  pub onPairs-before : (k : ℕ) → k < a → X k ≡ onPairs A o f m (suc j) (b k)
+  onPairs-before k n =
       equal-elements A o (extended k whole (omega arith)) (has-onPairs A o f (has-b k (omega arith)) (record { low = omega arith; high = omega arith }))
       (λ u p. P-above f (suc j) (m + 2 - k) F u (omega arith))
 
@@ -69,18 +69,18 @@ module _ (A : Type 0) (o : Ops A) (f : OnPair A) (m j : ℕ) (h : List A) (jm : 
       let y : m + 2 - (a + 1) ≡ suc j = omega arith in
       has-eq A o (has-zipped A o g (has-b a (omega arith)) (has-b (a + 1) (omega arith))) (λ u p. ap₂ (λ c d. g (F (extend c u)) (F (extend d u))) x y)
 
-  pub upper : X a ≡ zipped (f .shorter) (b a) (b (a + 1))
-  upper = equal-elements A o (extended a whole (omega arith)) (both (f .shorter)) (λ u p.
+  pub onPairs-upper : X a ≡ zipped (f .shorter) (b a) (b (a + 1))
+  onPairs-upper = equal-elements A o (extended a whole (omega arith)) (both (f .shorter)) (λ u p.
       let x : m + 2 - a ≡ suc (suc j) = omega arith in
       ap (λ c. P f (suc j) F (extend c u)) x ∙ P-upper f (suc j) F u (omega (arith, p .once (suc j) (omega arith) (omega arith))))
 
-  pub lower : X (a + 1) ≡ zipped (f .longer) (b a) (b (a + 1))
-  lower = equal-elements A o (extended (a + 1) whole (omega arith)) (both (f .longer)) (λ u p.
+  pub onPairs-lower : X (a + 1) ≡ zipped (f .longer) (b a) (b (a + 1))
+  onPairs-lower = equal-elements A o (extended (a + 1) whole (omega arith)) (both (f .longer)) (λ u p.
       let x : m + 2 - (a + 1) ≡ suc j = omega arith in
       ap (λ c. P f (suc j) F (extend c u)) x ∙ P-lower f (suc j) F u (omega (arith, p .once (suc j) (omega arith) (omega arith))))
 
-  pub after : (k : ℕ) → a + 1 < k → k ≤ suc m → X k ≡ onPairs A o f m j (b k)
-  after k n l =
+  pub onPairs-after : (k : ℕ) → a + 1 < k → k ≤ suc m → X k ≡ onPairs A o f m j (b k)
+  onPairs-after k n l =
       equal-elements A o (extended k whole l) (has-onPairs A o f (has-b k l) (record { low = omega arith; high = omega arith }))
       (λ u p. P-below f j (m + 2 - k) F u (omega arith))
 
@@ -90,21 +90,21 @@ module _ (A : Type 0) (o : Ops A) (f : OnPair A) (m j : ℕ) (h : List A) (jm : 
       let n : suc (suc m) ≡ a + (2 + j) = omega arith in
       by-blocks B (suc (suc m)) (onPairs A o f (suc m) (suc j) h) (whole .size)
       ∙ ap (λ k. blocks k X) n ∙ blocks-add a (2 + j) X
-      ∙ ap₂ {C = List A} (λ u v. u ++ v) (blocks-cong a _ _ before)
+      ∙ ap₂ {C = List A} (λ u v. u ++ v) (blocks-cong a _ _ onPairs-before)
       (blocks-add 2 j (λ k. X (a + k)) ∙ ap₂ {C = List A} (λ u v. u ++ v) middle last)
     where
       middle : X (a + 0) ++ X (a + 1) ≡ exchanged f B (take (B + B) (drop (a * B) h))
       middle =
           let x : a + 0 ≡ a = omega arith in
           let room : (a + 2) * B ≤ suc (suc m) * B = mul-le-mul-right B (omega arith) in
-          ap₂ {C = List A} (λ u v. u ++ v) (ap X x ∙ upper) lower ∙ sym (exchanged-blocks f B a h (omega (arith, e, room)))
+          ap₂ {C = List A} (λ u v. u ++ v) (ap X x ∙ onPairs-upper) onPairs-lower ∙ sym (exchanged-blocks f B a h (omega (arith, e, room)))
 
       last : blocks j (λ k. X (a + (2 + k))) ≡ blocks (suc j - 1) (λ k. onPairs A o f m (suc j - 1) (block B k (drop ((a + 2) * B) h)))
       last =
           let x : j ≡ suc j - 1 = omega arith in
           blocks-cong j _ _ (λ k n.
           let y : a + (2 + k) ≡ a + 2 + k = omega arith in
-          after (a + (2 + k)) (omega arith) (omega arith) ∙ ap (onPairs A o f m j) (ap b y ∙ sym (block-drop B (a + 2) k h)))
+          onPairs-after (a + (2 + k)) (omega arith) (omega arith) ∙ ap (onPairs A o f m j) (ap b y ∙ sym (block-drop B (a + 2) k h)))
           ∙ ap (λ n. blocks n (λ k. onPairs A o f m n (block B k (drop ((a + 2) * B) h)))) x
 
 -- at rank m ≥ 1

@@ -16,7 +16,7 @@ use Rattle.algebra.specs.Pairs.{OnPair, forward, onPairs}
 use Rattle.algebra.proofs.Level.{level-blocks}
 use Rattle.algebra.proofs.PairLists.{zipped-shorter, zipped-longer}
 use Rattle.algebra.proofs.OnPairs.{onPairs-length}
-use Rattle.algebra.proofs.ByBlocks.{before, upper, lower, after}
+use Rattle.algebra.proofs.ByBlocks.{onPairs-before, onPairs-upper, onPairs-lower, onPairs-after}
 
 module _ (A : Type 0) (o : Ops A) (q r : A) where
   abbrev f : OnPair A
@@ -48,7 +48,7 @@ module _ (A : Type 0) (o : Ops A) (q r : A) where
     size k n = block-length (factorial (suc m)) (suc (suc m)) k h (omega arith) e
 
     line-1 : (k : ℕ) → k < a → F (suc j) 1 (b k) .value ≡ X k
-    line-1 k n = ih (suc j) (b k) (record { low = omega arith; high = omega arith }) (size k (omega arith)) ∙ sym (before A o f m j h jm e k n)
+    line-1 k n = ih (suc j) (b k) (record { low = omega arith; high = omega arith }) (size k (omega arith)) ∙ sym (onPairs-before A o f m j h jm e k n)
 
     line-2 : (i : ℕ) → 1 ≤ i → i ≤ 1 → _⊠_ A o q (F (suc j - i) (1 - i) (part A o F (suc m) (suc j) h i .value)) .value ≡ X (a + i - 1)
     unfolding part _⊠_
@@ -57,18 +57,18 @@ module _ (A : Type 0) (o : Ops A) (q r : A) where
         let n : a ≡ a + 1 - 1 = omega arith in
         ap (scale A o q) (nested-none m _ _ ∙ nested-none m _ _)
         ∙ sym (zipped-shorter A o q r (b a) (b (a + 1)) (size a (omega arith) ∙ sym (size (a + 1) (omega arith))))
-        ∙ sym (upper A o f m j h jm e) ∙ ap X n
+        ∙ sym (onPairs-upper A o f m j h jm e) ∙ ap X n
     line-2 (suc (suc i)) u v = absurd (omega arith)
 
     line-3 : _⊞_ A o (free (b a)) (_⊠_ A o r (sumRow A o 1 0 (part A o F (suc m) (suc j) h))) .value ≡ X (a + 1)
     unfolding free part sumRow _⊞_ _⊠_
-    line-3 = ap (λ x. plus A o (b a) (scale A o r x)) (nested-none m _ _) ∙ sym (lower A o f m j h jm e ∙ zipped-longer A o q r (b a) (b (a + 1)))
+    line-3 = ap (λ x. plus A o (b a) (scale A o r x)) (nested-none m _ _) ∙ sym (onPairs-lower A o f m j h jm e ∙ zipped-longer A o q r (b a) (b (a + 1)))
 
     line-4 : (k : ℕ) → a + 1 < k → k ≤ suc m → F (suc j - 1) 1 (b k) .value ≡ X k
     line-4 k n l =
         let x : suc j - 1 ≡ j = omega arith in
         ap (λ i. F i 1 (b k) .value) x
-        ∙ ih j (b k) (record { low = omega arith; high = omega arith }) (size k l) ∙ sym (after A o f m j h jm e k n l)
+        ∙ ih j (b k) (record { low = omega arith; high = omega arith }) (size k l) ∙ sym (onPairs-after A o f m j h jm e k n l)
 
     level-letter : level A o q r F (suc m) (suc j) 1 h .value ≡ onPairs A o f (suc m) (suc j) h
     unfolding factorial
