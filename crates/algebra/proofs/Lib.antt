@@ -43,9 +43,17 @@ pub mod Costs
 pub mod Counts
 pub mod Letters
 pub mod Bounds
+-- a letter on pairs of coefficients
+pub mod PairLists
+pub mod OnPairs
+pub mod PairBlocks
+pub mod ByBlocks
+pub mod LowRanks
+pub mod NestedLetter
 -- maps of operations
 pub mod Maps
 pub mod NestedMaps
+pub mod PairMaps
 pub mod Onto
 pub mod Carry
 pub mod CarryMethod

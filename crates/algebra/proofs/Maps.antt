@@ -13,7 +13,7 @@ use Rattle.algebra.specs.Place.{place, perms}
 use Rattle.algebra.specs.Element.{coefficient, element, plus, scale, sumOver, basis, unit, T}
 use Rattle.algebra.specs.Product.{minusOne, basisLetter, letter, act, times}
 
-map-cond : {X Y : Type 0} (k : X → Y) (b : Bool) {x y : X} {x' y' : Y} → k x ≡ x' → k y ≡ y' → k (cond b x y) ≡ cond b x' y'
+pub map-cond : {X Y : Type 0} (k : X → Y) (b : Bool) {x y : X} {x' y' : Y} → k x ≡ x' → k y ≡ y' → k (cond b x y) ≡ cond b x' y'
 map-cond k true e d = e
 map-cond k false e d = d
 

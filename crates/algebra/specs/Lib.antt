@@ -1,6 +1,7 @@
 pub mod Place
 pub mod Element
 pub mod Product
+pub mod Pairs
 pub mod Nested
 pub mod Cost
 pub mod Pairing

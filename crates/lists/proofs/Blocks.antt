@@ -42,12 +42,12 @@ module _ {A : Type 0} where
   by-blocks B n x e = sym (take-all (n * B) x (omega arith)) ∙ take-blocks B n x
 
 module _ {A B : Type 0} (f : A → B) where
-  map-take : (n : ℕ) (h : List A) → map f (take n h) ≡ take n (map f h)
+  pub map-take : (n : ℕ) (h : List A) → map f (take n h) ≡ take n (map f h)
   map-take zero h = refl
   map-take (suc n) [] = refl
   map-take (suc n) (x ∷ h) = ap {B = List B} (λ t. f x ∷ t) (map-take n h)
 
-  map-drop : (n : ℕ) (h : List A) → map f (drop n h) ≡ drop n (map f h)
+  pub map-drop : (n : ℕ) (h : List A) → map f (drop n h) ≡ drop n (map f h)
   map-drop zero h = refl
   map-drop (suc n) [] = refl
   map-drop (suc n) (x ∷ h) = map-drop n h
