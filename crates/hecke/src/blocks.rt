@@ -1,16 +1,18 @@
-// Lists of words: copied and added, and the moves of blocks that the action needs. The parameters d and s are the
-// destination and the source.
+// Lists of words: copied and added, and the moves of blocks that the action needs, for the parameters p. The parameters d and s
+// are the destination and the source.
 
 ghost use mathlib.Core.Path.{_≡_};
 ghost use mathlib.Core.List.{_++_};
-ghost use Prim.Native.Nat.{ℕ, _+_, _*_, _≤_};
+ghost use Prim.Native.Nat.{ℕ, suc, _+_, _*_, _≤_};
 ghost use lib.ListN.{length, take, drop};
-ghost use Rattle.ring.specs.Modular.{words};
 ghost use Rattle.lists.specs.Blocks.{block};
 ghost use Rattle.algebra.specs.Element.{plus, scale};
-ghost use Rattle.hecke.specs.Steps.{collected};
+ghost use Rattle.algebra.specs.Pairs.{exchanged};
+ghost use Rattle.element_calls.specs.Coefficients.{ring};
+ghost use Rattle.hecke.specs.Steps.{exchanging, collected, shifted};
+use element_calls::Parameters;
 
-fn copy(d: &mut [u64], s: &[u64])
+pub(crate) fn copy(d: &mut [u64], s: &[u64])
     requires { ⌜ length (now d) ≡ length (now s) ⌝ }
     ensures { λ _. ⌜ now (d .exit) ≡ now (s .entry) ⌝ }
 {
@@ -20,57 +22,68 @@ fn copy(d: &mut [u64], s: &[u64])
 }
 
 // d + s in the place of d.
-fn add_to(d: &mut [u64], s: &[u64])
+pub(crate) fn add_to(d: &mut [u64], s: &[u64], p: Parameters)
     requires { ⌜ length (now d) ≡ length (now s) ⌝ }
-    ensures { λ _. ⌜ now (d .exit) ≡ plus ℕ words (now (d .entry)) (now (s .entry)) ⌝ }
+    ensures { λ _. ⌜ now (d .exit) ≡ plus ℕ (ring p) (now (d .entry)) (now (s .entry)) ⌝ }
 {
     for i in 0..s.len() {
         d[i] = ring::add(d[i], s[i]);
     }
 }
 
-// s + r d in the place of d.
-fn fold_into(d: &mut [u64], r: u64, s: &[u64])
+// c s + d in the place of d, from the end.
+pub(crate) fn add_multiple(d: &mut [u64], c: u64, s: &[u64], p: Parameters)
     requires { ⌜ length (now d) ≡ length (now s) ⌝ }
-    ensures { λ _. ⌜ now (d .exit) ≡ plus ℕ words (now (s .entry)) (scale ℕ words r (now (d .entry))) ⌝ }
+    ensures { λ _. ⌜ now (d .exit) ≡ plus ℕ (ring p) (scale ℕ (ring p) c (now (s .entry))) (now (d .entry)) ⌝ }
 {
-    for i in 0..s.len() {
-        d[i] = ring::add(s[i], ring::mul(r, d[i]));
+    let mut i = s.len();
+    while 0 < i {
+        i -= 1;
+        d[i] = ring::add(ring::mul(c, s[i]), d[i]);
     }
 }
 
-// The words of x from index b on, times q, move b places down, and w follows them.
-fn shift(x: &mut [u64], b: usize, q: u64, w: &[u64])
-    requires { ⌜ (b ≤ length (now x)) × (length (now w) ≡ b) ⌝ }
-    ensures { λ _. ⌜ now (x .exit) ≡ scale ℕ words q (drop b (now (x .entry))) ++ now (w .entry) ⌝ }
+// s + r d in the place of d.
+fn fold_into(d: &mut [u64], s: &[u64], p: Parameters)
+    requires { ⌜ length (now d) ≡ length (now s) ⌝ }
+    ensures { λ _. ⌜ now (d .exit) ≡ plus ℕ (ring p) (now (s .entry)) (scale ℕ (ring p) (p .r) (now (d .entry))) ⌝ }
 {
-    let top = x.len() - b;
-    for i in 0..top {
-        x[i] = ring::mul(q, x[b + i]);
+    for i in 0..s.len() {
+        d[i] = ring::add(s[i], ring::mul(p.r, d[i]));
     }
-    copy(&mut x[top..], w);
+}
+
+// q times the second of two blocks of b words in the place of the first, from the end.
+fn lower(x: &mut [u64], b: usize, p: Parameters)
+    requires { ⌜ length (now x) ≡ b + b ⌝ }
+    ensures { λ _. ⌜ now (x .exit) ≡ scale ℕ (ring p) (p .q) (drop b (now (x .entry))) ++ drop b (now (x .entry)) ⌝ }
+{
+    let mut i = b;
+    while 0 < i {
+        i -= 1;
+        x[i] = ring::mul(p.q, x[b + i]);
+    }
 }
 
 // In the place of two blocks s and t of b words: q t and s + r t, from the end.
-pub(crate) fn exchange(x: &mut [u64], b: usize, q: u64, r: u64)
+pub(crate) fn exchange(x: &mut [u64], b: usize, p: Parameters)
     requires { ⌜ length (now x) ≡ b + b ⌝ }
-    ensures { λ _. ⌜ now (x .exit) ≡ scale ℕ words q (drop b (now (x .entry)))
-        ++ plus ℕ words (take b (now (x .entry))) (scale ℕ words r (drop b (now (x .entry)))) ⌝ }
+    ensures { λ _. ⌜ now (x .exit) ≡ exchanged (exchanging p) b (now (x .entry)) ⌝ }
 {
     let mut i = b;
     while 0 < i {
         i -= 1;
         let s = x[i];
         let t = x[b + i];
-        x[i] = ring::mul(q, t);
-        x[b + i] = ring::add(s, ring::mul(r, t));
+        x[i] = ring::mul(p.q, t);
+        x[b + i] = ring::add(s, ring::mul(p.r, t));
     }
 }
 
 // Block k of x is added to the first b words of sum; for i = 0 it replaces them.
-pub(crate) fn collect(sum: &mut [u64], x: &[u64], b: usize, k: usize, i: usize)
+pub(crate) fn collect(sum: &mut [u64], x: &[u64], b: usize, k: usize, i: usize, p: Parameters)
     requires { ⌜ (b ≤ length (now sum)) × (k * b + b ≤ length (now x)) ⌝ }
-    ensures { λ _. ⌜ take b (now (sum .exit)) ≡ collected i (take b (now (sum .entry))) (block b k (now (x .entry))) ⌝ }
+    ensures { λ _. ⌜ take b (now (sum .exit)) ≡ collected p i (take b (now (sum .entry))) (block b k (now (x .entry))) ⌝ }
 {
     let at = k * b;
     let end = at + b;
@@ -78,25 +91,30 @@ pub(crate) fn collect(sum: &mut [u64], x: &[u64], b: usize, k: usize, i: usize)
         copy(&mut sum[0..b], &x[at..end]);
         return;
     }
-    add_to(&mut sum[0..b], &x[at..end]);
+    add_to(&mut sum[0..b], &x[at..end], p);
 }
 
 // s + d in the place of d, with as many words of s as d has.
-pub(crate) fn finish(d: &mut [u64], s: &[u64])
+pub(crate) fn finish(d: &mut [u64], s: &[u64], p: Parameters)
     requires { ⌜ length (now d) ≤ length (now s) ⌝ }
-    ensures { λ _. ⌜ now (d .exit) ≡ plus ℕ words (take (length (now (d .entry))) (now (s .entry))) (now (d .entry)) ⌝ }
+    ensures { λ _. ⌜ now (d .exit) ≡ plus ℕ (ring p) (take (length (now (d .entry))) (now (s .entry))) (now (d .entry)) ⌝ }
 {
     let n = d.len();
-    add_to(d, &s[0..n]);
+    add_to(d, &s[0..n], p);
 }
 
-// The blocks of x after the first, times q, move one block down; after them comes the first block plus r times the first b words
-// of sum.
-pub(crate) fn turn(x: &mut [u64], sum: &mut [u64], b: usize, q: u64, r: u64)
-    requires { ⌜ (b ≤ length (now x)) × (b ≤ length (now sum)) ⌝ }
-    ensures { λ _. ⌜ now (x .exit) ≡ scale ℕ words q (drop b (now (x .entry)))
-        ++ plus ℕ words (take b (now (x .entry))) (scale ℕ words r (take b (now (sum .entry)))) ⌝ }
+// The blocks of x after the first, times q, move one block down, each through a part that begins where it goes; the last block
+// becomes the first one plus r times the first b words of sum.
+pub(crate) fn shift(x: &mut [u64], sum: &mut [u64], b: usize, l: usize, p: Parameters)
+    requires { ⌜ (length (now x) ≡ suc l * b) × (b ≤ length (now sum)) ⌝ }
+    ensures { λ _. ⌜ now (x .exit) ≡ shifted p b (now (x .entry)) (take b (now (sum .entry))) ⌝ }
 {
-    fold_into(&mut sum[0..b], r, &x[0..b]);
-    shift(x, b, q, &sum[0..b]);
+    fold_into(&mut sum[0..b], &x[0..b], p);
+    for i in 0..l {
+        let at = i * b;
+        let end = at + b + b;
+        lower(&mut x[at..end], b, p);
+    }
+    let top = l * b;
+    copy(&mut x[top..], &sum[0..b]);
 }

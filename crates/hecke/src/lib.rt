@@ -17,6 +17,7 @@ use refusals::then;
 
 mod action;
 mod blocks;
+mod letters;
 mod multiply;
 
 // M, the number of words of an element of rank m.
@@ -41,7 +42,7 @@ pub fn act_word(m: usize, q: u64, word: &[u8], element: &mut [u64]) -> Answer
     if let Verdict::Refused(why) = checked {
         return refused(why);
     }
-    action::act_letters(element, word, m, q, element_calls::minus_one(q));
+    letters::act_letters(element, word, m, element_calls::parameters_of(q));
     accepted(word.len() as u64 * (3 * size(m) as u64 / 2))
 }
 
@@ -79,8 +80,7 @@ pub fn product(
         right,
         m,
         m,
-        q,
-        element_calls::minus_one(q),
+        element_calls::parameters_of(q),
     );
     word_lists::clear(&mut scratch[0..need]);
     accepted(ranks::product_count(m))

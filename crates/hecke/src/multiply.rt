@@ -1,11 +1,11 @@
-// The product by the nested method: the recursion over the rank of the right factor.
+// The product by the nested method, for the parameters p: the recursion over the rank of the right factor.
 
 ghost use mathlib.Core.Path.{_≡_};
-ghost use Prim.Native.Nat.{suc};
-ghost use Rattle.lists.specs.Numbers.{factorial};
-ghost use Rattle.hecke.specs.Steps.{multiplied, LayerPre, LayerPost, TimesPre};
+ghost use Rattle.hecke.specs.Steps.{multiplied, FactorsPre, TimesPre, LayerPre, LayerPost};
+use element_calls::Parameters;
 use crate::action;
 use crate::blocks;
+use crate::letters;
 
 // h g in the place of result, for h of rank m and g of rank l. The sum of the first k summands, one for each block of g, is in
 // the first words of scratch.
@@ -16,49 +16,38 @@ pub(crate) fn times(
     g: &[u64],
     m: usize,
     l: usize,
-    q: u64,
-    r: u64,
+    p: Parameters,
 )
     requires { ⌜ TimesPre m l (now result) (now scratch) (now h) (now g) ⌝ }
-    ensures { λ _. ⌜ now (result .exit) ≡ multiplied q r m l (now (h .entry)) (now (g .entry)) ⌝ }
+    ensures { λ _. ⌜ now (result .exit) ≡ multiplied p m l (now (h .entry)) (now (g .entry)) ⌝ }
 {
     if l == 0 {
         word_lists::scale_into(result, g[0], h);
         return;
     }
-    let size = crate::size(m);
     if l == 1 {
-        times_one(result, scratch, h, g, m, size, q, r);
+        times_one(result, h, g, m, p);
         return;
     }
+    let size = crate::size(m);
     let lower = l - 1;
     let part = crate::size(lower);
     for k in 0..l {
-        layer(result, scratch, h, g, m, lower, k, size, part, q, r);
-        blocks::collect(scratch, result, size, 0, k);
+        layer(result, scratch, h, g, m, lower, k, size, part, p);
+        blocks::collect(scratch, result, size, 0, k, p);
     }
-    layer(result, scratch, h, g, m, lower, l, size, part, q, r);
-    blocks::finish(result, scratch);
+    layer(result, scratch, h, g, m, lower, l, size, part, p);
+    blocks::finish(result, scratch, p);
 }
 
 // h g in the place of result, for g of rank 1: g_0 h + (g_1 h) T_1.
-fn times_one(
-    result: &mut [u64],
-    scratch: &mut [u64],
-    h: &[u64],
-    g: &[u64],
-    m: usize,
-    size: usize,
-    q: u64,
-    r: u64,
-)
-    requires { ⌜ TimesPre m 1 (now result) (now scratch) (now h) (now g) × (size ≡ factorial (suc m)) ⌝ }
-    ensures { λ _. ⌜ now (result .exit) ≡ multiplied q r m 1 (now (h .entry)) (now (g .entry)) ⌝ }
+fn times_one(result: &mut [u64], h: &[u64], g: &[u64], m: usize, p: Parameters)
+    requires { ⌜ FactorsPre m 1 (now result) (now h) (now g) ⌝ }
+    ensures { λ _. ⌜ now (result .exit) ≡ multiplied p m 1 (now (h .entry)) (now (g .entry)) ⌝ }
 {
-    word_lists::scale_into(&mut scratch[0..size], g[0], h);
     word_lists::scale_into(result, g[1], h);
-    action::letter(result, m, 1, q, r);
-    blocks::finish(result, scratch);
+    letters::letter(result, m, 1, p);
+    blocks::add_multiple(result, g[0], h, p);
 }
 
 // (h g_k) T_a(l+1,k) in the place of result, for the block g_k of g, of rank l and part words. The first size words of scratch
@@ -73,14 +62,13 @@ fn layer(
     k: usize,
     size: usize,
     part: usize,
-    q: u64,
-    r: u64,
+    p: Parameters,
 )
     requires { ⌜ LayerPre m l k size part (now result) (now scratch) (now h) (now g) ⌝ }
-    ensures { λ _. ⌜ LayerPost q r m l k size part (now (h .entry)) (now (g .entry)) (now (scratch .entry)) (now (result .exit)) (now (scratch .exit)) ⌝ }
+    ensures { λ _. ⌜ LayerPost p m l k size part (now (h .entry)) (now (g .entry)) (now (scratch .entry)) (now (result .exit)) (now (scratch .exit)) ⌝ }
 {
     let at = k * part;
     let end = at + part;
-    times(result, &mut scratch[size..], h, &g[at..end], m, l, q, r);
-    action::act(result, &mut scratch[size..], m, l + 1, k, q, r);
+    times(result, &mut scratch[size..], h, &g[at..end], m, l, p);
+    action::act(result, &mut scratch[size..], m, l + 1, k, p);
 }
