@@ -49,7 +49,7 @@ accept-entries t c = rw (less-no {x = first bad 0 (length t)} {a = length t} (om
     bad : ℕ → Bool
     bad i = less (suc i) (getD t i 0)
 
-accept-tower : (t : List ℕ) → (length t ≤ 63) × Tower (length t) t → towerVerdict t ≡ Accepted
+pub accept-tower : (t : List ℕ) → (length t ≤ 63) × Tower (length t) t → towerVerdict t ≡ Accepted
 unfolding towerVerdict
 accept-tower t c = rw (less-no (c .0)) (accept-entries t (c .1))
 
