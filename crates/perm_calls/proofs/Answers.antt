@@ -8,7 +8,7 @@ use Prim.Native.Nat.{ℕ, _≤_, _<_}
 use lib.ListN.{length, drop}
 use lib.Seq.{take-at, drop-at}
 use Rattle.lists.proofs.Test.{less-yes, less-no, less-true}
-use Rattle.refusals.specs.Refusals.{_then_, Outcome}
+use Rattle.refusals.specs.Refusals.{_then_}
 use Rattle.refusals.specs.declared.Verdict.the-variants.{Accepted}
 use Rattle.refusals.proofs.Ended.{ended-done}
 use Rattle.perms.specs.Permutation.{product, generator, len}
@@ -17,7 +17,6 @@ use Rattle.perms.proofs.Lengths.{len-imagesOf, length-standard}
 use Rattle.perms.proofs.Mask.{mask-lt, ones-mask, number-tally, mask-set}
 use Rattle.perm_calls.specs.Calls.{towerVerdict, room, standardWordCall, descentsCall}
 use Rattle.perm_calls.specs.Claims.{DescentSet, Spells, Answers}
-use Rattle.perm_calls.specs.declared.Counted.{Counted}
 use Rattle.perm_calls.specs.declared.Counted.the-variants as C
 use Rattle.perm_calls.proofs.Accepted.{accept-tower}
 

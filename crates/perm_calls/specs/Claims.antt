@@ -26,7 +26,7 @@ use Rattle.perm_calls.specs.declared.Generators.the-variants.{Set}
 pub record Checks : Type 0 where
   pub images : (w : List ℕ) → (imagesVerdict w ≡ Accepted) ↔ ((1 ≤ length w) × (length w ≤ 64) × Perm (pred (length w)) w)
   pub tower : (t : List ℕ) → (towerVerdict t ≡ Accepted) ↔ ((length t ≤ 63) × Tower (length t) t)
-  pub towers : (t u : List ℕ) → (towersVerdict t u ≡ Accepted) ↔ ((length t ≤ 63) × (length t ≡ length u) × Tower (length t) t × Tower (length u) u)
+  pub towers : (t u : List ℕ) → (towersVerdict t u ≡ Accepted) ↔ ((length t ≤ 63) × Tower (length t) t × Tower (length t) u)
 
 pub record Refusals : Type 0 where
   pub tower-of : (w buffer : List ℕ) → Keeps (verdictReport (towerOfCall w buffer .answer)) buffer (towerOfCall w buffer .lent)
