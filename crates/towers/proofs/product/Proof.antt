@@ -14,6 +14,7 @@ returns : tie.Need-returns
 unfolding productCall
 returns c = search (refused, needs)
 
+-- the towers fit in either order: what is written tells the orders apart
 fill-tower-of-product-requires : tie.Need-fill-tower-of-product-requires
 fill-tower-of-product-requires c κs =
     let at = c .before .before .before in
