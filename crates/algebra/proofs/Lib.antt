@@ -22,6 +22,7 @@ pub mod Relations
 pub mod Coefficients
 pub mod CoefficientActions
 pub mod Elements
+pub mod AnyWords
 pub mod Unit
 pub mod WordSlices
 pub mod Laws

@@ -8,7 +8,7 @@ use Rattle.ring.specs.Ring.{Ops, Hom}
 use Rattle.lists.specs.Lists.{same, less, range}
 use Rattle.lists.specs.Numbers.{factorial}
 use Rattle.perms.specs.Permutation.{product, identity, generator, len}
-use Rattle.perms.specs.Tower.{towerOf, standard}
+use Rattle.perms.specs.ShortestWord.{shortestWord}
 use Rattle.algebra.specs.Place.{place, perms}
 use Rattle.algebra.specs.Element.{coefficient, element, plus, scale, sumOver, basis, unit, T}
 use Rattle.algebra.specs.Product.{minusOne, basisLetter, letter, act, times}
@@ -84,4 +84,4 @@ module _ {A B : Type 0} {o : Ops A} {p : Ops B} {f : A → B} (H : Hom A B o p f
     pub map-times : (m l : ℕ) (h g : List A) → map f (times A o q r m l h g) ≡ times B p (f q) (f r) m l (map f h) (map f g)
     unfolding times
     map-times m l h g = map-sumOver m (perms l) _ ∙ ap (sumOver B p m (perms l)) (fun-ext (λ v.
-        map-scale (coefficient A o g v) (act A o q r m (standard (towerOf v)) h) ∙ ap₂ (scale B p) (map-coefficient g v) (map-act m (standard (towerOf v)) h)))
+        map-scale (coefficient A o g v) (act A o q r m (shortestWord l v) h) ∙ ap₂ (scale B p) (map-coefficient g v) (map-act m (shortestWord l v) h)))
