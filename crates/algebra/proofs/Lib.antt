@@ -10,6 +10,7 @@ pub mod Enumeration
 pub mod Place
 pub mod Places
 pub mod Order
+pub mod Inverses
 -- the algebra on coefficient functions
 pub mod Delta
 pub mod Generator
