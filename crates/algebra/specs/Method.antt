@@ -1,6 +1,6 @@
 -- What document 01 says of the nested method, as claims beside the definition over permutations.
 --
---   Proposition3-2    the blocks of h T_a(j,l), for h of rank m and 1 ≤ l ≤ j ≤ m: four lines. There b k h is block k of h, and acted j l x is
+--   Proposition3-2    the blocks of h T_a(j,l), for h of rank m and 1 ≤ l ≤ j ≤ m: four lines. There b k h is block k of h, and cycled j l x is
 --                     x T_a(j,l) for x of rank m - 1. Here T_a(j,l) acts through the word of a(j, l)
 --   Method            h g is the sum over v of g_v times h acted on by any shortest word x(v) of v, for g of rank l ≤ m; the product with T of
 --                     a(j, l) is this action; the four lines; h g is the sum over k of (h g_k) T_a(l,k), for
@@ -28,15 +28,15 @@ module _ (A : Type 0) (o : Ops A) (q r : A) (m : ℕ) where
   abbrev b : ℕ → List A → List A
   b k h = block (factorial m) k h
 
-  abbrev acted : ℕ → ℕ → List A → List A
-  acted j l x = act A o q r (m - 1) (cycle j l) x
+  abbrev cycled : ℕ → ℕ → List A → List A
+  cycled j l x = act A o q r (m - 1) (cycle j l) x
 
   pub record Proposition3-2 (j l : ℕ) (h : List A) : Type 0 where
-    pub line-1 : (k : ℕ) → k < m - j → b k (act A o q r m (cycle j l) h) ≡ acted j l (b k h)
-    pub line-2 : (k : ℕ) → m - j ≤ k → k < m - j + l → b k (act A o q r m (cycle j l) h) ≡ scale A o q (acted (j - 1) (l - 1) (b (k + 1) h))
+    pub line-1 : (k : ℕ) → k < m - j → b k (act A o q r m (cycle j l) h) ≡ cycled j l (b k h)
+    pub line-2 : (k : ℕ) → m - j ≤ k → k < m - j + l → b k (act A o q r m (cycle j l) h) ≡ scale A o q (cycled (j - 1) (l - 1) (b (k + 1) h))
     pub line-3 : b (m - j + l) (act A o q r m (cycle j l) h)
-        ≡ plus A o (b (m - j) h) (scale A o r (sumOver A o (m - 1) (range 1 l) (λ i. acted (j - 1) (i - 1) (b (m - j + i) h))))
-    pub line-4 : (k : ℕ) → m - j + l < k → k ≤ m → b k (act A o q r m (cycle j l) h) ≡ acted (j - 1) l (b k h)
+        ≡ plus A o (b (m - j) h) (scale A o r (sumOver A o (m - 1) (range 1 l) (λ i. cycled (j - 1) (i - 1) (b (m - j + i) h))))
+    pub line-4 : (k : ℕ) → m - j + l < k → k ≤ m → b k (act A o q r m (cycle j l) h) ≡ cycled (j - 1) l (b k h)
 
 module _ (A : Type 0) (o : Ops A) (q r : A) (ok : A → Type 0) (m : ℕ) where
   pub record Method : Type 0 where
