@@ -7,8 +7,8 @@ use Rattle.ring.specs.Modular.{modular, words}
 use Rattle.lists.specs.Lists.{same, less, range, first, tally}
 use Rattle.lists.specs.Numbers.{factorial, series}
 use Rattle.lists.specs.Blocks.{block, blocks}
-use Rattle.perms.specs.Permutation.{product, identity, swap, generator, ofWord, below, len}
-use Rattle.perms.specs.Tower.{above, entry, cycle, descent}
+use Rattle.perms.specs.Permutation.{product, identity, swap, generator, ofWord, below, len, descent}
+use Rattle.perms.specs.Tower.{above, entry, cycle}
 use Rattle.perms.specs.ShortestWord.{letters, shortestWord}
 use Rattle.algebra.specs.Place.{place, join, perms}
 use Rattle.algebra.specs.Element.{coefficient, element, plus, scale, sumOver}

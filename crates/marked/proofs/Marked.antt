@@ -6,8 +6,8 @@ use Rattle.lists.specs.Numbers.{factorial, series}
 use Rattle.lists.specs.Blocks.{block, blocks}
 use Rattle.lists.specs.Overwrite.{overwrite}
 use Rattle.refusals.specs.Refusals.{ended}
-use Rattle.perms.specs.Permutation.{product, identity, swap, generator, ofWord, below, len}
-use Rattle.perms.specs.Tower.{above, entry, towerOf, cycle, ofCycles, imagesOf, descent}
+use Rattle.perms.specs.Permutation.{product, identity, swap, generator, ofWord, below, len, descent}
+use Rattle.perms.specs.Tower.{above, entry, towerOf, cycle, ofCycles, imagesOf}
 use Rattle.perms.specs.ShortestWord.{letters, shortestWord}
 use Rattle.algebra.specs.Place.{place, join, perms}
 use Rattle.algebra.specs.Element.{coefficient, element, plus, scale, sumOver, basis, unit}

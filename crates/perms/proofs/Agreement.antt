@@ -3,8 +3,8 @@ use mathlib.Core.Path.{_≡_, refl}
 use mathlib.Core.List.{map}
 use lib.ListN.{length}
 use Rattle.lists.specs.Lists.{same, less, range, first, tally}
-use Rattle.perms.specs.Permutation.{product, identity, inverse, swap, generator, below, len, ofWord}
-use Rattle.perms.specs.Tower.{above, entry, towerOf, cycle, cycles, standard, ofCycles, imagesOf, total, descent, mask}
+use Rattle.perms.specs.Permutation.{product, identity, inverse, swap, generator, below, len, descent, ofWord}
+use Rattle.perms.specs.Tower.{above, entry, towerOf, cycle, cycles, standard, ofCycles, imagesOf, total, mask}
 use Rattle.perms.specs.ShortestWord.{letters, shortestWord}
 use Rattle.perms.proofs.Vectors.{vectors, pairs}
 

@@ -8,8 +8,8 @@ use native.Mathlib.Omega.{arith}
 use Rattle.lists.specs.Lists.{first}
 use Rattle.lists.proofs.Test.{less-yes, less-true}
 use Rattle.lists.proofs.First.{first-holds}
-use Rattle.perms.specs.Permutation.{Perm, product, identity, generator, len, Letter, ofWord, Shortest}
-use Rattle.perms.specs.Tower.{towerOf, standard, descent}
+use Rattle.perms.specs.Permutation.{Perm, product, identity, generator, len, descent, Letter, ofWord, Shortest}
+use Rattle.perms.specs.Tower.{towerOf, standard}
 use Rattle.perms.specs.ShortestWord.{letters, shortestWord}
 use Rattle.perms.proofs.Perm.{lft, lft-lft, perm-lft}
 use Rattle.perms.proofs.Identity.{perm-identity}

@@ -5,8 +5,7 @@
 use mathlib.Core.List.{List, [], _∷_}
 use Prim.Native.Nat.{ℕ, zero, suc}
 use Rattle.lists.specs.Lists.{first}
-use Rattle.perms.specs.Permutation.{product, generator, len}
-use Rattle.perms.specs.Tower.{descent}
+use Rattle.perms.specs.Permutation.{product, generator, len, descent}
 
 unfoldable pub letters : ℕ → ℕ → List ℕ → List ℕ
 letters zero m v = []
