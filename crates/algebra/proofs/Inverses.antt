@@ -5,7 +5,7 @@ use Prim.Native.Nat.{ℕ}
 use native.Mathlib.Omega.{arith}
 use Rattle.ring.specs.Ring.{Ops, Ring}
 use Rattle.ring.specs.Sum.{sum}
-use Rattle.ring.proofs.OwnInverse.{Listed, sum-own-inverse}
+use Rattle.ring.proofs.OwnInverse.{Enumerated, sum-own-inverse}
 use Rattle.lists.proofs.All.{all-getD}
 use Rattle.perms.specs.Permutation.{Perm, product, inverse}
 use Rattle.perms.specs.Laws.{Group}
@@ -15,8 +15,8 @@ use Rattle.algebra.proofs.Enumeration.{perms-perm}
 use Rattle.algebra.proofs.Place.{place-below}
 use Rattle.algebra.proofs.Places.{length-perms, place-at, at-place}
 
-pub perms-listed : (m : ℕ) → Listed (perms m) (Perm m) place []
-perms-listed m = record {
+pub perms-enumerated : (m : ℕ) → Enumerated (perms m) (Perm m) place []
+perms-enumerated m = record {
   each = λ i h. all-getD (Perm m) (perms m) i [] h (perms-perm m);
   below = λ w p. omega (arith, length-perms m, place-below m w p);
   there = at-place m;
@@ -36,4 +36,4 @@ inverse-inverse m w p =
     ∙ G .identity-left w p
 
 pub sum-inverses : (A : Type 0) (o : Ops A) → Ring A o → (m : ℕ) (F : List ℕ → A) → sum A o (perms m) (λ w. F (inverse w)) ≡ sum A o (perms m) F
-sum-inverses A o 𝓡 m F = sum-own-inverse (perms-listed m) inverse (group m .inverse-perm) (inverse-inverse m) A o 𝓡 F
+sum-inverses A o 𝓡 m F = sum-own-inverse (perms-enumerated m) inverse (group m .inverse-perm) (inverse-inverse m) A o 𝓡 F

@@ -10,7 +10,7 @@ use Rattle.lists.proofs.Test.{less-yes, less-true}
 use Rattle.lists.proofs.First.{first-holds}
 use Rattle.perms.specs.Permutation.{Perm, product, identity, generator, len, descent, Letter, ofWord, Shortest}
 use Rattle.perms.specs.Tower.{towerOf, standard}
-use Rattle.perms.specs.ShortestWord.{letters, shortestWord}
+use Rattle.perms.specs.ShortestWord.{firstLetters, shortestWord}
 use Rattle.perms.proofs.Perm.{lft, lft-lft, perm-lft}
 use Rattle.perms.proofs.Identity.{perm-identity}
 use Rattle.perms.proofs.Products.{generator-product}
@@ -77,13 +77,13 @@ module _ {m i : ℕ} (v : List ℕ) (p : Perm m v) (l : Letter m i) where
     short = rest-len d ∙ ap suc (s .short);
   }
 
-letters-short : (n m : ℕ) (v : List ℕ) → Perm m v → len v ≡ n → Shortest m (letters n m v) v
-unfolding letters
-letters-short zero m v p e = len-zero v p e
-letters-short (suc n) m v p e =
+firstLetters-short : (n m : ℕ) (v : List ℕ) → Perm m v → len v ≡ n → Shortest m (firstLetters n m v) v
+unfolding firstLetters
+firstLetters-short zero m v p e = len-zero v p e
+firstLetters-short (suc n) m v p e =
     let d = least-descends v p e in
-    short-before v p (d .0) _ (d .1) (letters-short n m _ (rest-perm v p (d .0)) (omega (arith, rest-len v p (d .0) (d .1))))
+    short-before v p (d .0) _ (d .1) (firstLetters-short n m _ (rest-perm v p (d .0)) (omega (arith, rest-len v p (d .0) (d .1))))
 
 pub shortestWord-shortest : (m : ℕ) (v : List ℕ) → Perm m v → Shortest m (shortestWord m v) v
 unfolding shortestWord
-shortestWord-shortest m v p = letters-short (len v) m v p refl
+shortestWord-shortest m v p = firstLetters-short (len v) m v p refl

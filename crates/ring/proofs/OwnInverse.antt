@@ -1,7 +1,7 @@
 -- Where f is its own inverse on what a list lists, the values f(x) of its elements are the list in another order, and a sum over f(x) is the sum over
 -- x. Rests on Rearranged and Sum.
 --
---   Listed t P at d   t lists what has the property P, each element once: x stands at the index at(x). Past the end of t one reads d
+--   Enumerated t P at d   t lists what has the property P, each element once: x stands at the index at(x). Past the end of t one reads d
 use mathlib.Core.Path.{_≡_, refl, sym, ap, _∙_}
 use mathlib.Core.List.{List, [], _∷_, map}
 use Prim.Native.Nat.{ℕ, zero, suc, _<_}
@@ -13,7 +13,7 @@ use Rattle.ring.specs.Sum.{sum}
 use Rattle.ring.proofs.Sum.{sum-map}
 use Rattle.ring.proofs.Rearranged.{Rearranged, sum-rearranged}
 
-pub record Listed {B : Type 0} (t : List B) (P : B → Type 0) (at : B → ℕ) (d : B) : Type 0 where
+pub record Enumerated {B : Type 0} (t : List B) (P : B → Type 0) (at : B → ℕ) (d : B) : Type 0 where
   pub each : (i : ℕ) → i < length t → P (getD t i d)
   pub below : (x : B) → P x → at x < length t
   pub there : (x : B) → P x → getD t (at x) d ≡ x
@@ -24,7 +24,7 @@ getD-any [] i c d h = absurd (omega arith)
 getD-any (x ∷ t) zero c d h = refl
 getD-any (x ∷ t) (suc i) c d h = getD-any t i c d (le-of-suc-le-suc h)
 
-module _ {B : Type 0} {t : List B} {P : B → Type 0} {at : B → ℕ} {d : B} (L : Listed t P at d)
+module _ {B : Type 0} {t : List B} {P : B → Type 0} {at : B → ℕ} {d : B} (L : Enumerated t P at d)
     (f : B → B) (keeps : (x : B) → P x → P (f x)) (undoes : (x : B) → P x → f (f x) ≡ x) where
   pub map-rearranged : Rearranged (map f t) t
   map-rearranged = record {
