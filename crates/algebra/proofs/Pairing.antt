@@ -1,5 +1,6 @@
 -- The pairing by blocks: the length of u a(m + 1, k) is that of u and k, so the pairing of rank m + 1 is the sum over k of q to the power k times the
--- pairing of the blocks k. In every commutative ring, and for the integers modulo N ≥ 1, of which words are a case. Rests on Enumeration, Order, Maps, Onto, ring's Modular and perms' Lengths.
+-- pairing of the blocks k. In every commutative ring, and for the integers modulo N ≥ 1, of which words are a case. Rests on Enumeration, Order, Maps,
+-- Onto, ring's Modular and perms' Lengths.
 --
 --   horner n P s      P(0) + q (P(1) + .. + q (P(n - 1) + q s))
 --   byBlocks m a b    that sum for a and b of rank m + 1, by Horner's rule

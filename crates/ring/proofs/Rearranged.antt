@@ -69,7 +69,8 @@ rest : {B : Type 0} (x : B) (s t : List B) (r : Rearranged (x ∷ s) t) → Rear
 rest x s t r = record {
   size = omega (arith, long, r .size);
   from = λ i. moved k (r .from (suc i));
-  within = λ i h. moved-below k (r .from (suc i)) (length (cut k t)) (other i h) (omega (arith, long, first)) (omega (arith, long, r .within (suc i) (omega arith)));
+  within = λ i h.
+      moved-below k (r .from (suc i)) (length (cut k t)) (other i h) (omega (arith, long, first)) (omega (arith, long, r .within (suc i) (omega arith)));
   apart = λ i j h l e.
       omega (arith, r .apart (suc i) (suc j) (omega arith) (omega arith) (moved-apart k (r .from (suc i)) (r .from (suc j)) (other i h) (other j l) e));
   same = λ d i h. r .same d (suc i) (omega arith) ∙ sym (getD-cut k (r .from (suc i)) t d (other i h));
