@@ -10,7 +10,7 @@ const HEAD: &str = "\
 
 The library's calls beside plain Rust and C, all in one run on one machine. `cargo run --release --offline -p bench -- --write`
 makes this page; without `--write` it prints the two tables, and with `--check` it compares all results and times nothing. With
-the variable HECKE_BEFORE set to the path of an older `libhecke_c.a`, the tables have its products and words too, as `before`.
+the variable HECKE_BEFORE set to the full path of an older `libhecke_c.a`, its products and words take part too, as `before`.
 ";
 
 const TERMS: &str = "
