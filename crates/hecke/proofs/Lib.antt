@@ -1,6 +1,7 @@
 -- lists and their parts
 mod Sums
 mod Exchange
+mod Lowered
 -- the action of T_a(j,l) and of a word
 mod Pieces
 mod Middle

@@ -9,6 +9,7 @@ use Rattle.lists.proofs.Fill.{filled-none, filled-more}
 use Rattle.algebra.specs.Element.{plus}
 use Rattle.algebra.proofs.Lists.{plus-length}
 use Rattle.word_lists.proofs.Loops.{Written, written-all, plus-next}
+use Rattle.element_calls.specs.Coefficients.{modulus}
 use Rattle.hecke.proofs.blocks.add_to.Statement.{statement}
 use Rattle.hecke.proofs.blocks.add_to.Tie as tie
 
@@ -33,6 +34,7 @@ same-length : tie.Need-same-length Inv-loop μ-loop
 same-length c = c .before .loop .inv .2 .same
 
 returns : tie.Need-returns Inv-loop μ-loop
+unfolding modulus
 returns c = let start = c .before .before .before .before in
     written-all _ (c .before .loop .inv .2) (omega arith) (plus-length ℕ words (start .args .d .now) (start .args .s .now) (start .pre))
 

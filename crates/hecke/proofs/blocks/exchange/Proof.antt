@@ -8,17 +8,19 @@ use lib.ListN.{length, getD, set, take, drop, length-set}
 use Rattle.ring.specs.Modular.{words}
 use Rattle.algebra.specs.Element.{plus, scale}
 use Rattle.algebra.proofs.Lists.{plus-length, scale-length}
+use Rattle.algebra.proofs.PairLists.{exchanged-forward}
 use Rattle.word_lists.proofs.Loops.{plus-next, scale-next}
+use Rattle.element_calls.specs.Coefficients.{modulus}
 use Rattle.hecke.proofs.Exchange.{Exchanged, low-size, high-size, exchanged-none, exchanged-more, exchanged-low, exchanged-high, exchanged-all}
 use Rattle.hecke.proofs.blocks.exchange.Statement.{statement}
 use Rattle.hecke.proofs.blocks.exchange.Tie as tie
 
 abbrev Inv-loop : tie.InvT-loop
-Inv-loop x₀ b q r i₀ x i = (i ≤ b)
-    × Exchanged b (scale ℕ words q (drop b x₀)) (plus ℕ words (take b x₀) (scale ℕ words r (drop b x₀))) x₀ x i
+Inv-loop x₀ b p i₀ x i = (i ≤ b)
+    × Exchanged b (scale ℕ words (p .q) (drop b x₀)) (plus ℕ words (take b x₀) (scale ℕ words (p .r) (drop b x₀))) x₀ x i
 
 abbrev μ-loop : tie.MeasureT-loop
-μ-loop x₀ b q r i₀ x i = i
+μ-loop x₀ b p i₀ x i = i
 
 loop-holds : tie.Need-loop-holds Inv-loop μ-loop
 loop-holds c = (omega arith, exchanged-none _ _ _ _ (c .before .pre))
@@ -41,19 +43,21 @@ loop-again : tie.Need-loop-again Inv-loop μ-loop
 loop-again c = let at = c .before .before .before .before .before .before in let start = at .before .before in let u = start .args in
     let j = at .loop .i - 1 in let h = at .loop .inv .1 in
     let high = high-size (u .b) (u .x .now) (start .pre) in
-    let first = scale-next (u .q) (drop (u .b) (u .x .now)) j (c .before .before .mul .ensures) (exchanged-high j h (omega arith)) (omega (arith, high)) in
-    let second = second-next (u .b) (u .r) j h (start .pre) (omega arith) (omega arith) in
+    let first = scale-next (u .p .q) (drop (u .b) (u .x .now)) j (c .before .before .mul .ensures) (exchanged-high j h (omega arith)) (omega (arith, high)) in
+    let second = second-next (u .b) (u .p .r) j h (start .pre) (omega arith) (omega arith) in
     (omega arith, exchanged-more j _ _ h (start .pre) (omega arith) (omega arith) first (search (second, needs)))
 
 same-length : tie.Need-same-length Inv-loop μ-loop
 same-length c = c .before .loop .inv .1 .same
 
 returns : tie.Need-returns Inv-loop μ-loop
+unfolding modulus
 returns c = let start = c .before .before .before in let u = start .args in let s = take (u .b) (u .x .now) in let t = drop (u .b) (u .x .now) in
     let low = low-size (u .b) (u .x .now) (start .pre) in let high = high-size (u .b) (u .x .now) (start .pre) in
     let multiple : (k : ℕ) → length (scale ℕ words k t) ≡ u .b = λ k. scale-length ℕ words k t ∙ high in
-    exchanged-all (c .before .loop .inv .1) (start .pre) (omega arith) (multiple (u .q))
-    (plus-length ℕ words s (scale ℕ words (u .r) t) (low ∙ sym (multiple (u .r))) ∙ low)
+    exchanged-all (c .before .loop .inv .1) (start .pre) (omega arith) (multiple (u .p .q))
+    (plus-length ℕ words s (scale ℕ words (u .p .r) t) (low ∙ sym (multiple (u .p .r))) ∙ low)
+    ∙ sym (exchanged-forward ℕ words (u .p .q) (u .p .r) (u .b) (u .x .now) (start .pre))
 
 pub exchange-spec : {M : Type 1} → statement M
 exchange-spec =

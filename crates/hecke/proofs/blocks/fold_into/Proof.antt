@@ -9,14 +9,15 @@ use Rattle.lists.proofs.Fill.{filled-none, filled-more}
 use Rattle.algebra.specs.Element.{plus, scale}
 use Rattle.algebra.proofs.Lists.{plus-length, scale-length}
 use Rattle.word_lists.proofs.Loops.{Written, written-all, plus-next, scale-next}
+use Rattle.element_calls.specs.Coefficients.{modulus}
 use Rattle.hecke.proofs.blocks.fold_into.Statement.{statement}
 use Rattle.hecke.proofs.blocks.fold_into.Tie as tie
 
 abbrev Inv-loop : tie.InvT-loop
-Inv-loop d₀ r s i₀ i-end d i = (i ≤ i-end) × (i-end ≡ length s) × Written (plus ℕ words s (scale ℕ words r d₀)) d₀ d i
+Inv-loop d₀ s p i₀ i-end d i = (i ≤ i-end) × (i-end ≡ length s) × Written (plus ℕ words s (scale ℕ words (p .r) d₀)) d₀ d i
 
 abbrev μ-loop : tie.MeasureT-loop
-μ-loop d₀ r s i₀ i-end d i = i-end - i
+μ-loop d₀ s p i₀ i-end d i = i-end - i
 
 loop-holds : tie.Need-loop-holds Inv-loop μ-loop
 loop-holds c = (omega arith, refl, filled-none _ _)
@@ -24,21 +25,22 @@ loop-holds c = (omega arith, refl, filled-none _ _)
 loop-again : tie.Need-loop-again Inv-loop μ-loop
 loop-again c = let at = c .before .before .before .before .before in let start = at .before .before .before in let u = start .args in let i = at .loop .i in
     let h = at .loop .inv .2 in
-    let multiple = scale-next (u .r) (u .d .now) i (c .before .mul .ensures) (h .rest i (omega arith)) (omega arith) in (
+    let multiple = scale-next (u .p .r) (u .d .now) i (c .before .mul .ensures) (h .rest i (omega arith)) (omega arith) in (
       omega arith,
       refl,
       filled-more _ h (omega arith)
-          (plus-next (u .s .now) (scale ℕ words (u .r) (u .d .now)) i (c .add .ensures) refl multiple (omega arith)
-          (sym (scale-length ℕ words (u .r) (u .d .now) ∙ start .pre))),
+          (plus-next (u .s .now) (scale ℕ words (u .p .r) (u .d .now)) i (c .add .ensures) refl multiple (omega arith)
+          (sym (scale-length ℕ words (u .p .r) (u .d .now) ∙ start .pre))),
     )
 
 same-length : tie.Need-same-length Inv-loop μ-loop
 same-length c = c .before .loop .inv .2 .same
 
 returns : tie.Need-returns Inv-loop μ-loop
+unfolding modulus
 returns c = let start = c .before .before .before .before in let u = start .args in
-    let e = sym (scale-length ℕ words (u .r) (u .d .now) ∙ start .pre) in
-    written-all _ (c .before .loop .inv .2) (omega arith) (plus-length ℕ words (u .s .now) (scale ℕ words (u .r) (u .d .now)) e ∙ sym (start .pre))
+    let e = sym (scale-length ℕ words (u .p .r) (u .d .now) ∙ start .pre) in
+    written-all _ (c .before .loop .inv .2) (omega arith) (plus-length ℕ words (u .s .now) (scale ℕ words (u .p .r) (u .d .now)) e ∙ sym (start .pre))
 
 pub fold-into-spec : {M : Type 1} → statement M
 fold-into-spec =
