@@ -26,7 +26,8 @@ loop-holds c = (omega arith, lowered-none _ _ _ (c .before .pre))
 loop-again : tie.Need-loop-again Inv-loop μ-loop
 loop-again c =
     let at = c .before .before .before in
-    let start = at .before .before in let u = start .args in
+    let start = at .before .before in
+    let u = start .args in
     let j = at .loop .i - 1 in
     let h = at .loop .inv .1 in
     let next = scale-next (u .p .q) (drop (u .b) (u .x .now)) j (c .mul .ensures) (lowered-high j h)
