@@ -125,7 +125,7 @@ pub record FactorsPre (m l : ℕ) (out h g : List ℕ) : Type 0 where
 
 pub record TimesPre (m l : ℕ) (out scratch h g : List ℕ) : Type 0 where
   pub factors : FactorsPre m l out h g
-  pub scratch : l * factorial (suc m) ≤ length scratch
+  pub enough : l * factorial (suc m) ≤ length scratch
 
 -- l is the rank of a block of g; s and p are the numbers of words of an element and of such a block
 pub record LayerPre (m l k s p : ℕ) (out scratch h g : List ℕ) : Type 0 where
@@ -137,7 +137,7 @@ pub record LayerPre (m l k s p : ℕ) (out scratch h g : List ℕ) : Type 0 wher
   pub left : length h ≡ s
   pub right : k * p + p ≤ length g
   pub result : length out ≡ s
-  pub scratch : s + l * s ≤ length scratch
+  pub enough : s + l * s ≤ length scratch
 
 -- scratch is that at entry, result and scratch′ are those at exit
 pub record LayerPost (p : Parameters) (m l k s n : ℕ) (h g scratch result scratch′ : List ℕ) : Type 0 where
