@@ -1,8 +1,8 @@
 -- An operator on pairs of coefficients, on an element of rank m, by the three parts that are lent: what the calls on them require, and the element when
 -- all are back. For any operations o and any operator f. Rests on Cuts, lists' Parts and algebra's ByBlocks.
-use mathlib.Core.Path.{_≡_, sym, ap, ap₂, _∙_}
+use mathlib.Core.Path.{_≡_, sym, ap, _∙_}
 use mathlib.Core.List.{List, _++_}
-use Prim.Native.Nat.{ℕ, suc, _+_, _*_, _-_, _≤_}
+use Prim.Native.Nat.{ℕ, suc, _+_, _*_, _-_}
 use native.Mathlib.Nat.{add-mul}
 use native.Mathlib.Omega.{arith}
 use lib.ListN.{length, take, drop}
@@ -14,7 +14,7 @@ use Rattle.lists.proofs.Parts.{element-blocks}
 use Rattle.algebra.specs.Pairs.{OnPair, onPairs, exchanged}
 use Rattle.algebra.proofs.ByBlocks.{onPairs-blocks}
 use Rattle.hecke.specs.Steps.{LetterPre, EachLetterPre}
-use Rattle.hecke.proofs.Cuts.{Cut, above-low, low-size, middle-size, high-size, cut-whole}
+use Rattle.hecke.proofs.Cuts.{Cut, low-size, middle-size, high-size, cut-blocks}
 
 module _ {m j b : ℕ} {x : List ℕ} (p : LetterPre m j x) (s : b ≡ factorial (suc (m - 1))) where
   abbrev low : ℕ
@@ -63,8 +63,8 @@ module _ {m j b : ℕ} {x : List ℕ} (p : LetterPre m j x) (s : b ≡ factorial
           → v₃ ≡ blocks (j - 1) (λ k. onPairs ℕ o f (m - 1) (j - 1) (block b k (midOf high (length y₂ - high) y₂)))
           → putMid high (length y₂ - high) y₂ v₃ ≡ onPairs ℕ o f m j x
       all-back o f v₃ e₁ e₂ e₃ =
-          let n : high - low ≡ b + b = omega arith in
-          cut-whole cut v₁ s₁ v₂ s₂ v₃ (onPairs ℕ o f (m - 1) j) (exchanged f b) (onPairs ℕ o f (m - 1) (j - 1)) e₁ e₂ e₃
-          ∙ ap₂ {C = List ℕ} (λ (k h : ℕ). blocks (m - j) (λ i. onPairs ℕ o f (m - 1) j (block b i x))
-          ++ (exchanged f b (take k (drop low x)) ++ blocks (j - 1) (λ i. onPairs ℕ o f (m - 1) (j - 1) (block b i (drop h x))))) n (cut .top)
+          let two : 2 * b ≡ b + b = omega arith in
+          let rest = blocks (j - 1) (λ k. onPairs ℕ o f (m - 1) (j - 1) (block b k (drop ((m - j + 2) * b) x))) in
+          cut-blocks cut v₁ s₁ v₂ s₂ v₃ (onPairs ℕ o f (m - 1) j) (exchanged f b) (onPairs ℕ o f (m - 1) (j - 1)) e₁ e₂ e₃
+          ∙ ap (λ (n : ℕ). blocks (m - j) (λ k. onPairs ℕ o f (m - 1) j (block b k x)) ++ (exchanged f b (take n (drop low x)) ++ rest)) two
           ∙ sym (onPairs-blocks ℕ o f m j b x (p .letter) (p .size) s)

@@ -38,8 +38,8 @@ exchange-requires-2 c κs =
 returns : tie.Need-returns
 returns c =
     let second = c .before .before in let first = first-1 second in
-    exchanged-two-1 _ _ (start-1 first .pre) (first .exchange .last .0) (first .before .before .if1 .taken) (first .exchange .kept .0) (first .exchange .ensures)
-    (second .exchange2 .ensures)
+    exchanged-two-1 _ _ (start-1 first .pre) (first .exchange .last .0) (first .before .before .if1 .taken) (first .exchange .kept .0)
+    (first .exchange .ensures) (second .exchange2 .ensures)
 
 -- ---- j = 2
 

@@ -111,14 +111,13 @@ module _ (t : ℕ) where
 
   pub same-length : lts.Need-same-length-3 claims asked letter.Post
   same-length c =
-      let h = c .before .before in
-      let e = second h in let l = first e in
+      let h = c .before .before in let e = second h in let l = first e in
       cut-length (cut (start (sized l) .pre .1) (sized l .size .ensures)) (l .each-letter .last .0) (l .each-letter .kept .0)
       (e .exchange2 .last .0) (e .exchange2 .kept .0) (h .each-letter2 .last .0) (h .each-letter2 .kept .0)
 
   pub returns-3 : lts.Need-returns-3 claims asked letter.Post
   returns-3 c =
-      let h = c .before .before in
-      let e = second h in let l = first e in
+      let h = c .before .before in let e = second h in let l = first e in
       all-back (start (sized l) .pre .1) (sized l .size .ensures) (l .each-letter .last .0) (l .each-letter .kept .0)
-      (e .exchange2 .last .0) (e .exchange2 .kept .0) _ _ (h .each-letter2 .last .0) (l .each-letter .ensures) (e .exchange2 .ensures) (h .each-letter2 .ensures)
+      (e .exchange2 .last .0) (e .exchange2 .kept .0) _ _ (h .each-letter2 .last .0)
+      (l .each-letter .ensures) (e .exchange2 .ensures) (h .each-letter2 .ensures)
