@@ -112,3 +112,13 @@ module _ {a n c b high : ℕ} {x : List ℕ} (p : Cut a n c b high x) where
             third : v₃ ≡ blocks c (λ k. g (block b k (drop high x)))
             third = e₃ ∙ ap (λ (y : List ℕ). blocks c (λ k. g (block b k y)))
                 (rest-part high y₂ ∙ second-back low high x v₁ v₂ lh high-within n₁ n₂)
+
+        -- the same, with all numbers as numbers of blocks
+        pub cut-blocks : (f F g : List ℕ → List ℕ) → v₁ ≡ blocks a (λ k. f (block b k (take (low - 0) x))) → v₂ ≡ F (midOf low (high - low) y₁)
+            → v₃ ≡ blocks c (λ k. g (block b k (midOf high (length y₂ - high) y₂)))
+            → putMid high (length y₂ - high) y₂ v₃
+            ≡ blocks a (λ k. f (block b k x)) ++ (F (take (n * b) (drop (a * b) x)) ++ blocks c (λ k. g (block b k (drop ((a + n) * b) x))))
+        cut-blocks f F g e₁ e₂ e₃ =
+            let size : high - low ≡ n * b = omega (arith, above-low) in
+            cut-whole f F g e₁ e₂ e₃
+            ∙ (λ i. blocks a (λ k. f (block b k x)) ++ (F (take (size i) (drop low x)) ++ blocks c (λ k. g (block b k (drop (p .top i) x)))))
