@@ -12,8 +12,10 @@ use Rattle.refusals.specs.declared.Answer.{Answer}
 use Rattle.algebra.specs.Product.{minusOne, times}
 use Rattle.ranks.specs.Ranks.{needed}
 use Rattle.element_calls.specs.Calls.{productCall}
-use Rattle.element_calls.specs.Demand3.{E, Taken, Lawful}
-use Rattle.element_calls.proofs.Demand3.{demand-3, product-lent}
+use Rattle.element_calls.specs.Claims.{Taken}
+use Rattle.element_calls.specs.Demand3.{E, Lawful}
+use Rattle.element_calls.proofs.Answers.{product-lent}
+use Rattle.element_calls.proofs.Demand3.{demand-3}
 use Rattle.associates.specs.Sizes.{Sizes}
 
 pub record Called (m q : ℕ) (h g r s r' s' : List ℕ) : Type 0 where

@@ -3,19 +3,19 @@
 --
 --   Cutting m j l b high x w   what `level` has where it cuts x into blocks of b words, the third part from `high` on; w is the work slice
 use mathlib.Core.Path.{_≡_, sym, ap, _∙_}
-use mathlib.Core.List.{List, _++_}
+use mathlib.Core.List.{List}
 use Prim.Native.Nat.{ℕ, suc, _+_, _*_, _-_, _≤_}
-use native.Mathlib.Nat.{add-mul, suc-mul, mul-le-mul-right}
+use native.Mathlib.Nat.{add-mul, mul-le-mul-right}
 use native.Mathlib.Numerals.{add-one}
 use native.Mathlib.Omega.{arith}
-use lib.ListN.{length, take, drop}
+use lib.ListN.{length, take}
 use borrow.Rule.Slice.PartMut.{midOf, putMid}
 use Rattle.lists.specs.Numbers.{factorial}
 use Rattle.lists.specs.Blocks.{block, blocks}
 use Rattle.lists.proofs.Parts.{element-blocks, next-block}
 use Rattle.element_calls.specs.declared.Parameters.{Parameters}
 use Rattle.hecke.specs.Steps.{acted, joint, LevelPre, EachPre, MiddlePre}
-use Rattle.hecke.proofs.Cuts.{Cut, low-size, above-low, middle-size, high-size, cut-whole}
+use Rattle.hecke.proofs.Cuts.{Cut, low-size, middle-size, high-size, cut-blocks}
 use Rattle.hecke.proofs.Pieces.{act-pieces}
 
 pub record Cutting (m j l b high : ℕ) (x w : List ℕ) : Type 0 where
@@ -87,8 +87,5 @@ module _ {m j l b high : ℕ} {x w : List ℕ} (c : Cutting m j l b high x w) wh
           → v₃ ≡ blocks (j - l) (λ k. acted p (m - 1) (j - 1) l (block b k (midOf high (length y₂ - high) y₂)))
           → putMid high (length y₂ - high) y₂ v₃ ≡ acted p m j l x
       level-whole p v₃ e₁ e₂ e₃ =
-          let between : high - low ≡ (l + 1) * b = omega (arith, above-low cut) in
-          cut-whole cut v₁ s₁ v₂ s₂ v₃ (acted p (m - 1) j l) (joint p (m - 1) b j l) (acted p (m - 1) (j - 1) l) e₁ e₂ e₃
-          ∙ (λ i. blocks (m - j) (λ k. acted p (m - 1) j l (block b k x))
-          ++ (joint p (m - 1) b j l (take (between i) (drop low x)) ++ blocks (j - l) (λ k. acted p (m - 1) (j - 1) l (block b k (drop (cut .top i) x)))))
+          cut-blocks cut v₁ s₁ v₂ s₂ v₃ (acted p (m - 1) j l) (joint p (m - 1) b j l) (acted p (m - 1) (j - 1) l) e₁ e₂ e₃
           ∙ sym (act-pieces p m j l b x (omega (arith, c .pre .more)) (c .pre .act .within) (c .pre .act .below) (c .size) whole)

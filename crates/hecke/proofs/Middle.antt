@@ -13,7 +13,6 @@ use native.Mathlib.Omega.{arith}
 use lib.ListN.{length, take, drop}
 use lib.Seq.{take-at, drop-at}
 use borrow.Rule.Slice.PartMut.{midOf, putMid, same-len-mid, take-put}
-use Rattle.ring.specs.Modular.{modular}
 use Rattle.lists.specs.Blocks.{block, blocks}
 use Rattle.lists.proofs.Blocks.{block-size, blocks-add, blocks-cong, map-blocks}
 use Rattle.lists.proofs.Parts.{part-block, part-size, rest-size}

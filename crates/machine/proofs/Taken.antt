@@ -18,8 +18,10 @@ use Rattle.algebra.specs.Cost.{C}
 use Rattle.ranks.specs.Ranks.{needed}
 use Rattle.ranks.proofs.Sizes.{sheet-size-small}
 use Rattle.element_calls.specs.Calls.{rankVerdict, sizeVerdict, wordVerdict, Buffers, write, sumCall, scaleCall, actWordCall, productCall}
-use Rattle.element_calls.specs.Demand3.{Taken, Lawful}
-use Rattle.element_calls.proofs.Demand3.{demand-3, product-lent}
+use Rattle.element_calls.specs.Claims.{Taken}
+use Rattle.element_calls.specs.Demand3.{Lawful}
+use Rattle.element_calls.proofs.Answers.{product-lent}
+use Rattle.element_calls.proofs.Demand3.{demand-3}
 use Rattle.machine.proofs.Put.{Part}
 
 write-taken : {A : Type 0} {a : Answer} {last : A} (v : Verdict) (old new : A) (n : ℕ) → Taken (write v old new n .answer)

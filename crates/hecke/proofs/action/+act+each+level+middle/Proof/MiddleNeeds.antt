@@ -1,6 +1,6 @@
 -- What is to be shown of `middle`: two actions on a block in each step, with the sum between them, and then the shift. Rests on Measures and Middle, and
 -- lists' Parts.
-use mathlib.Core.Path.{_≡_, ap, _∙_, subst}
+use mathlib.Core.Path.{_≡_, _∙_, subst}
 use mathlib.Core.List.{List}
 use Prim.Native.Nat.{ℕ, suc, _+_, _*_, _-_, _≤_}
 use native.Mathlib.Omega.{arith}

@@ -1,0 +1,93 @@
+-- What each call answers and leaves where it is taken: `xChecks` is the verdict of the call x. Rests on Calls.
+use mathlib.Core.Path.{_≡_, refl, sym, _∙_}
+use mathlib.Core.List.{List, _++_}
+use Prim.Native.Nat.{ℕ, suc, _+_, _*_, _/_}
+use lib.ListN.{length, drop, replicate}
+use Rattle.ring.specs.Modular.{words}
+use Rattle.lists.specs.Numbers.{factorial}
+use Rattle.refusals.specs.Refusals.{_then_, ended}
+use Rattle.refusals.specs.declared.Verdict.{Verdict}
+use Rattle.algebra.specs.Element.{plus, scale}
+use Rattle.algebra.specs.Product.{act, times}
+use Rattle.algebra.specs.Nested.{operations, nested}
+use Rattle.ranks.specs.Ranks.{needed}
+use Rattle.element_calls.specs.declared.Parameters.{Parameters}
+use Rattle.element_calls.specs.Coefficients.{ring, parametersOf}
+use Rattle.element_calls.specs.Calls.{rankVerdict, sizeVerdict, scratchVerdict, wordVerdict, sumCall, scaleCall, actWordCall, productCall}
+use Rattle.element_calls.specs.Claims.{Taken}
+use Rattle.element_calls.proofs.Calls.{write-verdict}
+
+module _ (m : ℕ) (h g result : List ℕ) where
+  abbrev sumChecks : Verdict
+  sumChecks = rankVerdict m then sizeVerdict m (length h) then sizeVerdict m (length g) then sizeVerdict m (length result)
+
+  pub sum-verdict : sumCall m h g result .answer .verdict ≡ sumChecks
+  unfolding sumCall
+  sum-verdict = write-verdict sumChecks _ _ _
+
+  pub sum-lent : Taken (sumCall m h g result .answer) → sumCall m h g result .lent ≡ plus ℕ words h g
+  unfolding sumCall ended
+  sum-lent t = rw (sym sum-verdict ∙ t) refl
+
+  pub sum-counted : Taken (sumCall m h g result .answer) → sumCall m h g result .answer .count ≡ factorial (suc m)
+  unfolding sumCall ended
+  sum-counted t = rw (sym sum-verdict ∙ t) refl
+
+module _ (m c : ℕ) (h result : List ℕ) where
+  abbrev scaleChecks : Verdict
+  scaleChecks = rankVerdict m then sizeVerdict m (length h) then sizeVerdict m (length result)
+
+  pub scale-verdict : scaleCall m c h result .answer .verdict ≡ scaleChecks
+  unfolding scaleCall
+  scale-verdict = write-verdict scaleChecks _ _ _
+
+  pub scale-lent : Taken (scaleCall m c h result .answer) → scaleCall m c h result .lent ≡ scale ℕ words c h
+  unfolding scaleCall ended
+  scale-lent t = rw (sym scale-verdict ∙ t) refl
+
+  pub scale-counted : Taken (scaleCall m c h result .answer) → scaleCall m c h result .answer .count ≡ factorial (suc m)
+  unfolding scaleCall ended
+  scale-counted t = rw (sym scale-verdict ∙ t) refl
+
+module _ (m q : ℕ) (x h : List ℕ) where
+  abbrev p : Parameters
+  p = parametersOf q
+
+  abbrev actChecks : Verdict
+  actChecks = rankVerdict m then sizeVerdict m (length h) then wordVerdict m x
+
+  pub act-verdict : actWordCall m q x h .answer .verdict ≡ actChecks
+  unfolding actWordCall
+  act-verdict = write-verdict actChecks _ _ _
+
+  pub act-lent : Taken (actWordCall m q x h .answer) → actWordCall m q x h .lent ≡ act ℕ (ring p) (p .q) (p .r) m x h
+  unfolding actWordCall ended
+  act-lent t = rw (sym act-verdict ∙ t) refl
+
+  pub act-counted : Taken (actWordCall m q x h .answer) → actWordCall m q x h .answer .count ≡ length x * (3 * factorial (suc m) / 2)
+  unfolding actWordCall ended
+  act-counted t = rw (sym act-verdict ∙ t) refl
+
+module _ (m q : ℕ) (h g result scratch : List ℕ) where
+  abbrev productChecks : Verdict
+  productChecks =
+      rankVerdict m then sizeVerdict m (length h) then sizeVerdict m (length g) then sizeVerdict m (length result) then scratchVerdict m (length scratch)
+
+  pub product-verdict : productCall m q h g result scratch .answer .verdict ≡ productChecks
+  unfolding productCall
+  product-verdict = write-verdict productChecks _ _ _
+
+  pub product-lent : Taken (productCall m q h g result scratch .answer)
+      → let p = parametersOf q in productCall m q h g result scratch .lent .result ≡ times ℕ (ring p) (p .q) (p .r) m m h g
+  unfolding productCall ended
+  product-lent t = rw (sym product-verdict ∙ t) refl
+
+  pub product-cleared : Taken (productCall m q h g result scratch .answer)
+      → productCall m q h g result scratch .lent .scratch ≡ replicate ((m + 6) * factorial (suc m)) 0 ++ drop ((m + 6) * factorial (suc m)) scratch
+  unfolding productCall ended needed
+  product-cleared t = rw (sym product-verdict ∙ t) refl
+
+  pub product-counts : Taken (productCall m q h g result scratch .answer)
+      → let p = parametersOf q in productCall m q h g result scratch .answer .count ≡ operations (nested ℕ (ring p) (p .q) (p .r) m m h g .count)
+  unfolding productCall ended
+  product-counts t = rw (sym product-verdict ∙ t) refl
