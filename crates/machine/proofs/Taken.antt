@@ -62,7 +62,7 @@ module _ {m : ℕ} (rank : m ≤ 5) where
           → productCall m q left right result scratch ≡ record { answer = a; lent = last }
           → (last .result ≡ times ℕ words q (minusOne ℕ words q) m m h g) × (a .count ≡ C m m)
       unfolding needed
-      product-taken q scratch word room e =
+      product-taken q scratch word large e =
           let few : (m + 6) * factorial (suc m) ≤ 11 * factorial (suc m) = mul-le-mul-right (factorial (suc m)) (omega arith) in
           let t = D q word .product-taken h g result scratch (f .fit) (k .fit) size (omega (arith, few, sheet-size-small m rank)) in
           let d = (λ i. productCall m q (sym (f .is) i) (sym (k .is) i) result scratch) ∙ e in (

@@ -21,8 +21,8 @@ use Rattle.sheet_format.specs.declared.Command.{Command}
 use Rattle.sheet_format.specs.declared.Command.the-variants.{End, Begin, Unit, Set, Letter, Product, Sum, Scale, Show, Pair, Equal}
 use Rattle.sheet.specs.Check.{inRange}
 use Rattle.machine.specs.Registers.{element, put, zeros}
-use Rattle.machine.specs.declared.Answer.{Answer}
-use Rattle.machine.specs.declared.Answer.the-variants.{Obeyed, NotObeyed}
+use Rattle.machine.specs.declared.Stepped.{Stepped}
+use Rattle.machine.specs.declared.Stepped.the-variants.{Obeyed, NotObeyed}
 
 unfoldable pub obey : ℕ → ℕ → Command → List ℕ → List ℕ
 obey m q End x = x
@@ -50,11 +50,11 @@ cost m (Show r) = 0
 cost m (Pair a b) = 0
 cost m (Equal a b) = 0
 
-abbrev pub stepReport : Answer → Report
+abbrev pub stepReport : Stepped → Report
 stepReport (Obeyed n) = reported Accepted n
 stepReport NotObeyed = reported Accepted 0
 
-unfoldable pub stepCall : ℕ → ℕ → Command → List ℕ → Outcome Answer (List ℕ)
+unfoldable pub stepCall : ℕ → ℕ → Command → List ℕ → Outcome Stepped (List ℕ)
 stepCall m q c x =
     cond (inRange m c && same (length x) 2880)
     (record { answer = Obeyed (cost m c); lent = obey m q c x })

@@ -10,7 +10,7 @@ use sheet_format::Command;
 mod registers;
 
 // The answer of one command.
-pub enum Answer {
+pub enum Stepped {
     // Obeyed, with the count of its ring operations.
     Obeyed(u64),
     // Nothing done: an operand out of range, or registers of another size than 4 x 720 words.
@@ -41,14 +41,14 @@ fn obey(x: &mut [u64], m: usize, q: u64, command: Command) -> u64
 // One command, in a sheet of rank m with the word q, on registers of 4 x 720 words, register r from 720 r on. A show changes
 // nothing.
 // Example: of rank 1, the unit into register 0 makes the first two words 1 0.
-pub fn step(m: usize, q: u64, command: Command, x: &mut [u64]) -> Answer
+pub fn step(m: usize, q: u64, command: Command, x: &mut [u64]) -> Stepped
     ensures { λ r. ⌜ stepCall m q command (now (x .entry)) ≡ record { answer = r; lent = now (x .exit) } ⌝ }
 {
     if x.len() != 2880 {
-        return Answer::NotObeyed;
+        return Stepped::NotObeyed;
     }
     if !sheet::in_range(m, command) {
-        return Answer::NotObeyed;
+        return Stepped::NotObeyed;
     }
-    Answer::Obeyed(obey(x, m, q, command))
+    Stepped::Obeyed(obey(x, m, q, command))
 }

@@ -11,7 +11,7 @@ ghost use Rattle.algebra.specs.Element.{plus, scale, unit};
 ghost use Rattle.algebra.specs.Product.{minusOne, act, times};
 ghost use Rattle.algebra.specs.Cost.{C};
 ghost use Rattle.machine.specs.Registers.{element, put, zeros};
-ghost use Rattle.machine.specs.Steps.{Registers};
+ghost use Rattle.machine.specs.Steps.{Registers, LetterPre, BinaryPre};
 
 // The words of a register from its front on, as many as d has.
 fn load(d: &mut [u64], x: &[u64], r: usize)
@@ -65,7 +65,7 @@ pub(crate) fn set_coefficient(
 }
 
 pub(crate) fn letter(x: &mut [u64], m: usize, size: usize, q: u64, r: usize, i: u8) -> u64
-    requires { ⌜ Registers m size (now x) × (r < 4) × (0 < i) × (i ≤ m) ⌝ }
+    requires { ⌜ LetterPre m size r i (now x) ⌝ }
     ensures { λ n. ⌜ (now (x .exit) ≡ put r (act ℕ words q (minusOne ℕ words q) m (i ∷ []) (element m r (now (x .entry)))) (now (x .entry)))
         × (n ≡ 3 * factorial (suc m) / 2) ⌝ }
 {
@@ -84,7 +84,7 @@ pub(crate) fn product(
     a: usize,
     b: usize,
 ) -> u64
-    requires { ⌜ Registers m size (now x) × (d < 4) × (a < 4) × (b < 4) ⌝ }
+    requires { ⌜ BinaryPre m size d a b (now x) ⌝ }
     ensures { λ n. ⌜ (now (x .exit)
         ≡ put d (times ℕ words q (minusOne ℕ words q) m m (element m a (now (x .entry))) (element m b (now (x .entry)))) (now (x .entry)))
         × (n ≡ C m m) ⌝ }
@@ -107,7 +107,7 @@ pub(crate) fn product(
 }
 
 pub(crate) fn sum(x: &mut [u64], m: usize, size: usize, d: usize, a: usize, b: usize) -> u64
-    requires { ⌜ Registers m size (now x) × (d < 4) × (a < 4) × (b < 4) ⌝ }
+    requires { ⌜ BinaryPre m size d a b (now x) ⌝ }
     ensures { λ n. ⌜ (now (x .exit) ≡ put d (plus ℕ words (element m a (now (x .entry))) (element m b (now (x .entry)))) (now (x .entry)))
         × (n ≡ factorial (suc m)) ⌝ }
 {

@@ -58,7 +58,7 @@ Holds (square m q x h) =
     × (called m q (basisOf m x) (basisOf m x) ≡ record { answer = accepted (C m m); lent = record { result = h; scratch = replicate (needed m) 0 ++ (7 ∷ []) } })
 Holds (count m l n) = (C m l ≡ n) × (operations (nested ℕ words 3 2 m l (unit ℕ words m) (unit ℕ words l) .count) ≡ n)
 Holds (answered m n) = called m 3 (unit ℕ words m) (unit ℕ words m) .answer ≡ accepted n
-Holds (run s h n t) = (runSheet s ≡ given Accepted (record { words = h ++ replicate (2880 - length h) 0; count = n })) × (printed s ≡ t)
+Holds (run s h n t) = (runSheet s ≡ given Accepted (record { contents = h ++ replicate (2880 - length h) 0; count = n })) × (printed s ≡ t)
 
 abbrev pub table : List Case
 table =

@@ -8,10 +8,10 @@ use Rattle.lists.specs.Overwrite.{overwrite}
 use Rattle.refusals.specs.Refusals.{Outcome}
 use Rattle.refusals.specs.declared.Refusal.{Refusal}
 use Rattle.sheet_format.specs.declared.Command.{Command}
-use Rattle.output.specs.Steps.{Written}
+use Rattle.output.specs.Steps.{Overwritten}
 use Rattle.output.specs.Printed.{front, textCall, errorCall}
 
-pub front-written : {t buffer last : List ℕ} {k : ℕ} → Written 0 t buffer last k → front t buffer ≡ record { answer = k; lent = last }
+pub front-written : {t buffer last : List ℕ} {k : ℕ} → Overwritten 0 t buffer last k → front t buffer ≡ record { answer = k; lent = last }
 unfolding front
 front-written {t} {k = k} h = let e : length t ≡ k = omega (arith, h .ends) in λ i. record { answer = e i; lent = sym (h .text) i }
 

@@ -3,7 +3,7 @@ pub mod Decimal
 pub mod ReadBack
 pub mod LineLengths
 -- what the functions write
-mod Overwrite
+mod Overwritten
 mod Listing
 mod EqualWords
 mod Horner

@@ -1,4 +1,4 @@
--- A loop that writes the nonzero coefficients of a list one after another. Rests on Overwrite, LineLengths and lists' Test.
+-- A loop that writes the nonzero coefficients of a list one after another. Rests on Overwritten, LineLengths and lists' Test.
 --
 --   Listed at h t u next i   the lines of the first i coefficients of h are written over t, from index at on, which gave u
 use mathlib.Core.Path.{_≡_, sym, ap, _∙_, subst}
@@ -14,8 +14,8 @@ use lib.Seq.{length-take-le, take-suc, take-all}
 use Rattle.lists.specs.Lists.{same, All}
 use Rattle.lists.proofs.Test.{same-yes, same-no}
 use Rattle.output.specs.Text.{pairLine, coefficients}
-use Rattle.output.specs.Steps.{Written}
-use Rattle.output.proofs.Overwrite.{written-none, written-more, written-size}
+use Rattle.output.specs.Steps.{Overwritten}
+use Rattle.output.proofs.Overwritten.{overwritten-none, overwritten-more, overwritten-size}
 use Rattle.output.proofs.LineLengths.{coefficients-short}
 
 coefficients-append : (i : ℕ) (h g : List ℕ) → coefficients i (h ++ g) ≡ coefficients i h ++ coefficients (i + length h) g
@@ -40,12 +40,12 @@ unfolding coefficients
 coefficient-line i {x} n = rw (same-no n) (append-nil (pairLine i x))
 
 pub record Listed (at : ℕ) (h t u : List ℕ) (next i : ℕ) : Type 0 where
-  pub room : at + length (coefficients 0 h) ≤ length t
-  pub written : Written at (coefficients 0 (take i h)) t u next
+  pub fits : at + length (coefficients 0 h) ≤ length t
+  pub written : Overwritten at (coefficients 0 (take i h)) t u next
 
 pub listed-none : {at : ℕ} {h t : List ℕ} → length h ≤ 720 → All (λ x. x < 2 ^ 64) h → at + 25 * length h ≤ length t → Listed at h t t at 0
 unfolding coefficients
-listed-none {at} {h} {t} few words room = record { room = omega (arith, coefficients-short 0 h (omega arith) words); written = written-none at t }
+listed-none {at} {h} {t} few each large = record { fits = omega (arith, coefficients-short 0 h (omega arith) each); written = overwritten-none at t }
 
 next-line : (h : List ℕ) (i : ℕ) → i < length h → coefficients 0 (take (i + 1) h) ≡ coefficients 0 (take i h) ++ coefficients i (getD h i 0 ∷ [])
 next-line h i l =
@@ -63,17 +63,17 @@ part-shorter h i = omega (
 
 module _ {at : ℕ} {h t u : List ℕ} {next i : ℕ} (a : Listed at h t u next i) where
   pub listed-size : length u ≡ length t
-  listed-size = written-size (a .written) (omega (arith, a .room, part-shorter h i))
+  listed-size = overwritten-size (a .written) (omega (arith, a .fits, part-shorter h i))
 
   pub listed-room : i < length h → next + length (coefficients i (getD h i 0 ∷ [])) ≤ length u
   listed-room l =
-      omega (arith, listed-size, a .room, a .written .ends, part-shorter h (i + 1), simp length-append at (ap length (next-line h i l)))
+      omega (arith, listed-size, a .fits, a .written .ends, part-shorter h (i + 1), simp length-append at (ap length (next-line h i l)))
 
-  pub listed-more : {v : List ℕ} {j : ℕ} → i < length h → Written next (coefficients i (getD h i 0 ∷ [])) u v j → Listed at h t v j (i + 1)
+  pub listed-more : {v : List ℕ} {j : ℕ} → i < length h → Overwritten next (coefficients i (getD h i 0 ∷ [])) u v j → Listed at h t v j (i + 1)
   listed-more {v} {j} l b = record {
-    room = a .room;
-    written = subst (λ x. Written at x t v j) (sym (next-line h i l)) (written-more (a .written) b (omega (arith, a .room)));
+    fits = a .fits;
+    written = subst (λ x. Overwritten at x t v j) (sym (next-line h i l)) (overwritten-more (a .written) b (omega (arith, a .fits)));
   }
 
-  pub listed-all : length h ≤ i → Written at (coefficients 0 h) t u next
-  listed-all l = subst (λ x. Written at (coefficients 0 x) t u next) (take-all i h l) (a .written)
+  pub listed-all : length h ≤ i → Overwritten at (coefficients 0 h) t u next
+  listed-all l = subst (λ x. Overwritten at (coefficients 0 x) t u next) (take-all i h l) (a .written)

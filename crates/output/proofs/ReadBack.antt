@@ -5,24 +5,24 @@ use Prim.Native.Nat.{ℕ, _+_, _-_, _*_, _/_, _%_, _≤_, _<_}
 use native.Mathlib.Omega.{arith}
 use lib.ListN.{List·getD-append}
 use Rattle.lists.proofs.All.{all-append}
-use Rattle.output.specs.Text.{decimal, value, Spells}
+use Rattle.output.specs.Text.{decimal, digitsValue, Spells}
 use Rattle.output.proofs.Decimal.{decimal-digit, decimal-last, by-digits, decimal-some}
 
-value-append : (v : ℕ) (s t : List ℕ) → value v (s ++ t) ≡ value (value v s) t
-unfolding value
-value-append v [] t = refl
-value-append v (d ∷ s) t = value-append _ s t
+digitsValue-append : (v : ℕ) (s t : List ℕ) → digitsValue v (s ++ t) ≡ digitsValue (digitsValue v s) t
+unfolding digitsValue
+digitsValue-append v [] t = refl
+digitsValue-append v (d ∷ s) t = digitsValue-append _ s t
 
 one : (n : ℕ) → n < 10 → Spells ((48 + n) ∷ []) n
-unfolding value
+unfolding digitsValue
 one n h = record { bytes = ((omega arith, omega arith), tt); number = omega arith; first = ap (λ d. d ∷ []) }
 
 more : (n : ℕ) → 10 ≤ n → Spells (decimal (n / 10)) (n / 10) → Spells (decimal (n / 10) ++ ((48 + n % 10) ∷ [])) n
-unfolding value
+unfolding digitsValue
 more n h s = record {
   bytes = all-append _ front (last ∷ []) (s .bytes) ((omega arith, omega arith), tt);
-  number = value-append 0 front (last ∷ []) ∙ ap (λ v. 10 * v + (last - 48)) (s .number) ∙ omega arith;
-  first = λ e. absurd (omega (arith, sym (s .number) ∙ ap (value 0) (s .first (sym (List·getD-append front (last ∷ []) 48 0 (decimal-some _)) ∙ e))));
+  number = digitsValue-append 0 front (last ∷ []) ∙ ap (λ v. 10 * v + (last - 48)) (s .number) ∙ omega arith;
+  first = λ e. absurd (omega (arith, sym (s .number) ∙ ap (digitsValue 0) (s .first (sym (List·getD-append front (last ∷ []) 48 0 (decimal-some _)) ∙ e))));
 }
   where
     front : List ℕ

@@ -20,8 +20,8 @@ use Rattle.sheet.proofs.InRange.{low, within}
 use Rattle.machine.specs.Registers.{element}
 use Rattle.machine.specs.Steps.{Registers}
 use Rattle.machine.proofs.Put.{small, words-element}
-use Rattle.runner.specs.Run.{Machine}
-use Rattle.output.specs.Text.{coefficients, room}
+use Rattle.runner.specs.Run.{State}
+use Rattle.output.specs.Text.{coefficients, textRoom}
 use Rattle.output.specs.Printed.{text}
 use Rattle.output.proofs.LineLengths.{bit-small, digit-line, line-short, tagged-pair-short, coefficients-short}
 
@@ -44,8 +44,8 @@ module _ {m : ℕ} {x : List ℕ} (z : Registers m (factorial (suc m)) x) {r : �
       omega (arith, e .size, small z, coefficients-short 0 (element m r x) (omega (arith, e .size, small z)) (e .each))
 
 module _ (m q : ℕ) where
-  pub text-short : (c : Command) (x : Machine) → inRange m c ≡ true → length (x .words) ≡ 2880 → All (λ n. n < 2 ^ 64) (x .words) → x .count < 2 ^ 64
-      → ((n p : ℕ) → c ≡ Begin n p → p < 2 ^ 64) → length (text m q c x) ≤ room
+  pub text-short : (c : Command) (x : State) → inRange m c ≡ true → length (x .contents) ≡ 2880 → All (λ n. n < 2 ^ 64) (x .contents) → x .count < 2 ^ 64
+      → ((n p : ℕ) → c ≡ Begin n p → p < 2 ^ 64) → length (text m q c x) ≤ textRoom
   unfolding text
   text-short End x e four a l w = omega (arith, line-short 78 (x .count) l)
   text-short (Begin n p) x e four a l w =
@@ -58,11 +58,11 @@ module _ (m q : ℕ) where
   text-short (Scale r v) x e four a l w = omega arith
   text-short (Show r) x e four a l w =
       let h = within m (Show r) e refl in
-      let z : Registers m (factorial (suc m)) (x .words) = record { low = low m (Show r) e; whole = refl; four = four } in
+      let z : Registers m (factorial (suc m)) (x .contents) = record { low = low m (Show r) e; whole = refl; four = four } in
       simp length-append (omega (arith, digit-line 82 r (omega arith), show-short z h a))
   text-short (Pair g h) x e four a l w =
-      let v = pairing ℕ words q m (element m g (x .words)) (element m h (x .words)) in
-      omega (arith, line-short 80 v (pairing-word q m (element m g (x .words)) (element m h (x .words))))
+      let v = pairing ℕ words q m (element m g (x .contents)) (element m h (x .contents)) in
+      omega (arith, line-short 80 v (pairing-word q m (element m g (x .contents)) (element m h (x .contents))))
   text-short (Equal g h) x e four a l w =
-      let b = equal (element m g (x .words)) (element m h (x .words)) in
+      let b = equal (element m g (x .contents)) (element m h (x .contents)) in
       omega (arith, line-short 81 (bit b) (bit-small b))

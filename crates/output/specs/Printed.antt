@@ -1,6 +1,6 @@
 -- What the program prints (document 01, "Run sheets").
 --
---   text m q c x             what a command prints, with the machine before it, in a sheet of rank m with the word q
+--   text m q c x             what a command prints, with the state before it, in a sheet of rank m with the word q
 --   texts m q cs x           the same of the commands cs, one after another
 --   refusalText why          the line of a refused sheet
 --   printedFor v s           all that is printed for the sheet s with the verdict v
@@ -26,11 +26,11 @@ use Rattle.sheet_format.specs.declared.Command.{Command}
 use Rattle.sheet_format.specs.declared.Command.the-variants.{End, Begin, Unit, Set, Letter, Product, Sum, Scale, Show, Pair, Equal}
 use Rattle.sheet.specs.Check.{inRange, placed, checkSheet}
 use Rattle.machine.specs.Registers.{element}
-use Rattle.runner.specs.Run.{Machine, start, after, commands}
-use Rattle.output.specs.Text.{line, taggedPair, coefficients, room, errorRoom}
+use Rattle.runner.specs.Run.{State, start, after, commands}
+use Rattle.output.specs.Text.{line, taggedPair, coefficients, textRoom, errorRoom}
 
 -- the letters E, H, N, P, Q and R are 69, 72, 78, 80, 81 and 82
-unfoldable pub text : ℕ → ℕ → Command → Machine → List ℕ
+unfoldable pub text : ℕ → ℕ → Command → State → List ℕ
 text m q End x = line 78 (x .count)
 text m q (Begin n p) x = taggedPair 72 n p
 text m q (Unit r) x = []
@@ -39,11 +39,11 @@ text m q (Letter r i) x = []
 text m q (Product d a b) x = []
 text m q (Sum d a b) x = []
 text m q (Scale r v) x = []
-text m q (Show r) x = line 82 r ++ coefficients 0 (element m r (x .words))
-text m q (Pair a b) x = line 80 (pairing ℕ words q m (element m a (x .words)) (element m b (x .words)))
-text m q (Equal a b) x = line 81 (bit (equal (element m a (x .words)) (element m b (x .words))))
+text m q (Show r) x = line 82 r ++ coefficients 0 (element m r (x .contents))
+text m q (Pair a b) x = line 80 (pairing ℕ words q m (element m a (x .contents)) (element m b (x .contents)))
+text m q (Equal a b) x = line 81 (bit (equal (element m a (x .contents)) (element m b (x .contents))))
 
-unfoldable pub texts : ℕ → ℕ → List Command → Machine → List ℕ
+unfoldable pub texts : ℕ → ℕ → List Command → State → List ℕ
 texts m q [] x = []
 texts m q (c ∷ cs) x = text m q c x ++ texts m q cs (after m q c x)
 
@@ -64,7 +64,7 @@ front t buffer = record { answer = length t; lent = overwrite 0 t buffer }
 
 unfoldable pub textCall : ℕ → ℕ → Command → List ℕ → ℕ → List ℕ → Outcome ℕ (List ℕ)
 textCall m q c x n buffer =
-    front (cond (not (less (length buffer) room) && same (length x) 2880 && inRange m c) (text m q c (record { words = x; count = n })) []) buffer
+    front (cond (not (less (length buffer) textRoom) && same (length x) 2880 && inRange m c) (text m q c (record { contents = x; count = n })) []) buffer
 
 unfoldable pub errorCall : Refusal → List ℕ → Outcome ℕ (List ℕ)
 errorCall why buffer = front (cond (less (length buffer) errorRoom) [] (refusalText why)) buffer

@@ -11,7 +11,7 @@ ghost use Rattle.sheet.specs.Check.{inRange};
 ghost use Rattle.machine.specs.Registers.{element};
 ghost use Rattle.output.specs.Text.{line, coefficients};
 ghost use Rattle.output.specs.Printed.{text, textCall, errorCall};
-ghost use Rattle.output.specs.Steps.{Written, Shown};
+ghost use Rattle.output.specs.Steps.{Overwritten, Shown};
 use refusals::Refusal;
 use sheet_format::Command;
 
@@ -27,7 +27,7 @@ pub const ERROR_ROOM: usize = 26;
 // A register's line, and a line for each of its nonzero coefficients.
 fn put_register(buffer: &mut [u8], x: &[u64], m: usize, r: usize) -> usize
     requires { ⌜ Shown m (now x) (now buffer) × (r < 4) ⌝ }
-    ensures { λ n. ⌜ Written 0 (line 82 r ++ coefficients 0 (element m r (now (x .entry)))) (now (buffer .entry)) (now (buffer .exit)) n ⌝ }
+    ensures { λ n. ⌜ Overwritten 0 (line 82 r ++ coefficients 0 (element m r (now (x .entry)))) (now (buffer .entry)) (now (buffer .exit)) n ⌝ }
 {
     let at = lines::put_line(buffer, 82, r as u64);
     let from = 720 * r;
@@ -37,7 +37,7 @@ fn put_register(buffer: &mut [u8], x: &[u64], m: usize, r: usize) -> usize
 
 fn put_pairing(buffer: &mut [u8], x: &[u64], m: usize, q: u64, a: usize, b: usize) -> usize
     requires { ⌜ Shown m (now x) (now buffer) × (a < 4) × (b < 4) ⌝ }
-    ensures { λ n. ⌜ Written 0 (line 80 (pairing ℕ words q m (element m a (now (x .entry))) (element m b (now (x .entry)))))
+    ensures { λ n. ⌜ Overwritten 0 (line 80 (pairing ℕ words q m (element m a (now (x .entry))) (element m b (now (x .entry)))))
         (now (buffer .entry)) (now (buffer .exit)) n ⌝ }
 {
     let size = ranks::size(m);
@@ -49,7 +49,7 @@ fn put_pairing(buffer: &mut [u8], x: &[u64], m: usize, q: u64, a: usize, b: usiz
 
 fn put_equality(buffer: &mut [u8], x: &[u64], m: usize, a: usize, b: usize) -> usize
     requires { ⌜ Shown m (now x) (now buffer) × (a < 4) × (b < 4) ⌝ }
-    ensures { λ n. ⌜ Written 0 (line 81 (bit (equal (element m a (now (x .entry))) (element m b (now (x .entry))))))
+    ensures { λ n. ⌜ Overwritten 0 (line 81 (bit (equal (element m a (now (x .entry))) (element m b (now (x .entry))))))
         (now (buffer .entry)) (now (buffer .exit)) n ⌝ }
 {
     let size = ranks::size(m);
@@ -62,7 +62,7 @@ fn put_equality(buffer: &mut [u8], x: &[u64], m: usize, a: usize, b: usize) -> u
 // What a command in range prints.
 fn put_text(buffer: &mut [u8], x: &[u64], count: u64, m: usize, q: u64, command: Command) -> usize
     requires { ⌜ Shown m (now x) (now buffer) × (inRange m command ≡ true) ⌝ }
-    ensures { λ n. ⌜ Written 0 (text m q command (record { words = now (x .entry); count = count })) (now (buffer .entry)) (now (buffer .exit)) n ⌝ }
+    ensures { λ n. ⌜ Overwritten 0 (text m q command (record { contents = now (x .entry); count = count })) (now (buffer .entry)) (now (buffer .exit)) n ⌝ }
 {
     match command {
         Command::End => lines::put_line(buffer, 78, count),

@@ -4,11 +4,11 @@ ghost use mathlib.Core.List.{[], _∷_};
 ghost use Prim.Native.Nat.{_+_, _*_, _≤_, _<_};
 ghost use lib.ListN.{length};
 ghost use Rattle.output.specs.Text.{decimal, pairLine, line, taggedPair, coefficients};
-ghost use Rattle.output.specs.Steps.{Written};
+ghost use Rattle.output.specs.Steps.{Overwritten};
 
 fn put_byte(text: &mut [u8], at: usize, b: u8) -> usize
     requires { ⌜ at < length (now text) ⌝ }
-    ensures { λ r. ⌜ Written at (b ∷ []) (now (text .entry)) (now (text .exit)) r ⌝ }
+    ensures { λ r. ⌜ Overwritten at (b ∷ []) (now (text .entry)) (now (text .exit)) r ⌝ }
 {
     text[at] = b;
     at + 1
@@ -17,7 +17,7 @@ fn put_byte(text: &mut [u8], at: usize, b: u8) -> usize
 // The number in base ten: its digits but the last, and then the last.
 fn put_number(text: &mut [u8], at: usize, n: u64) -> usize
     requires { ⌜ at + length (decimal n) ≤ length (now text) ⌝ }
-    ensures { λ r. ⌜ Written at (decimal n) (now (text .entry)) (now (text .exit)) r ⌝ }
+    ensures { λ r. ⌜ Overwritten at (decimal n) (now (text .entry)) (now (text .exit)) r ⌝ }
 {
     if n < 10 {
         return put_byte(text, at, 48 + n as u8);
@@ -29,7 +29,7 @@ fn put_number(text: &mut [u8], at: usize, n: u64) -> usize
 // Two numbers, with a space between them, and a newline.
 fn put_pair(text: &mut [u8], at: usize, a: u64, b: u64) -> usize
     requires { ⌜ at + length (pairLine a b) ≤ length (now text) ⌝ }
-    ensures { λ r. ⌜ Written at (pairLine a b) (now (text .entry)) (now (text .exit)) r ⌝ }
+    ensures { λ r. ⌜ Overwritten at (pairLine a b) (now (text .entry)) (now (text .exit)) r ⌝ }
 {
     let space = put_number(text, at, a);
     let second = put_byte(text, space, 32);
@@ -39,7 +39,7 @@ fn put_pair(text: &mut [u8], at: usize, a: u64, b: u64) -> usize
 
 fn put_tag(text: &mut [u8], tag: u8) -> usize
     requires { ⌜ 2 ≤ length (now text) ⌝ }
-    ensures { λ r. ⌜ Written 0 (tag ∷ 32 ∷ []) (now (text .entry)) (now (text .exit)) r ⌝ }
+    ensures { λ r. ⌜ Overwritten 0 (tag ∷ 32 ∷ []) (now (text .entry)) (now (text .exit)) r ⌝ }
 {
     text[0] = tag;
     text[1] = 32;
@@ -49,7 +49,7 @@ fn put_tag(text: &mut [u8], tag: u8) -> usize
 // A letter, a space, a number and a newline.
 pub(crate) fn put_line(text: &mut [u8], tag: u8, a: u64) -> usize
     requires { ⌜ length (line tag a) ≤ length (now text) ⌝ }
-    ensures { λ r. ⌜ Written 0 (line tag a) (now (text .entry)) (now (text .exit)) r ⌝ }
+    ensures { λ r. ⌜ Overwritten 0 (line tag a) (now (text .entry)) (now (text .exit)) r ⌝ }
 {
     let at = put_tag(text, tag);
     let newline = put_number(text, at, a);
@@ -59,7 +59,7 @@ pub(crate) fn put_line(text: &mut [u8], tag: u8, a: u64) -> usize
 // A letter, a space and a pair of numbers.
 pub(crate) fn put_tagged_pair(text: &mut [u8], tag: u8, a: u64, b: u64) -> usize
     requires { ⌜ length (taggedPair tag a b) ≤ length (now text) ⌝ }
-    ensures { λ r. ⌜ Written 0 (taggedPair tag a b) (now (text .entry)) (now (text .exit)) r ⌝ }
+    ensures { λ r. ⌜ Overwritten 0 (taggedPair tag a b) (now (text .entry)) (now (text .exit)) r ⌝ }
 {
     let at = put_tag(text, tag);
     put_pair(text, at, a, b)
@@ -68,7 +68,7 @@ pub(crate) fn put_tagged_pair(text: &mut [u8], tag: u8, a: u64, b: u64) -> usize
 // Index and value of a coefficient, unless it is zero.
 fn put_coefficient(text: &mut [u8], at: usize, i: usize, x: u64) -> usize
     requires { ⌜ at + length (coefficients i (x ∷ [])) ≤ length (now text) ⌝ }
-    ensures { λ r. ⌜ Written at (coefficients i (x ∷ [])) (now (text .entry)) (now (text .exit)) r ⌝ }
+    ensures { λ r. ⌜ Overwritten at (coefficients i (x ∷ [])) (now (text .entry)) (now (text .exit)) r ⌝ }
 {
     if x == 0 {
         return at;
@@ -79,7 +79,7 @@ fn put_coefficient(text: &mut [u8], at: usize, i: usize, x: u64) -> usize
 // A line for each nonzero coefficient of h, which has at most 720.
 pub(crate) fn put_coefficients(text: &mut [u8], at: usize, h: &[u64]) -> usize
     requires { ⌜ (length (now h) ≤ 720) × (at + 25 * length (now h) ≤ length (now text)) ⌝ }
-    ensures { λ r. ⌜ Written at (coefficients 0 (now (h .entry))) (now (text .entry)) (now (text .exit)) r ⌝ }
+    ensures { λ r. ⌜ Overwritten at (coefficients 0 (now (h .entry))) (now (text .entry)) (now (text .exit)) r ⌝ }
 {
     let mut next = at;
     for i in 0..h.len() {

@@ -4,18 +4,17 @@ ghost use mathlib.Core.Path.{_≡_};
 ghost use Prim.Native.Nat.{_≤_};
 ghost use lib.ListN.{length};
 ghost use Rattle.refusals.specs.declared.Verdict.the-variants.{Accepted};
-ghost use Rattle.sheet_format.specs.Format.{rank, parameter};
 ghost use Rattle.sheet.specs.Check.{checkSheet};
-ghost use Rattle.output.specs.Text.{room};
-ghost use Rattle.run_sheet.specs.Pieces.{machine, Ready, Piece};
+ghost use Rattle.output.specs.Text.{textRoom};
+ghost use Rattle.run_sheet.specs.Pieces.{state, FillPre, Piece};
 use libc::STDIN_FILENO;
 use libc::STDOUT_FILENO;
-use machine::Answer;
+use machine::Stepped;
 use refusals::Verdict;
 use sheet_format::Decoded;
 
 // A piece of text: the offset and the count after it, and its size.
-struct Filled {
+struct Gathered {
     at: usize,
     count: u64,
     used: usize,
@@ -31,11 +30,10 @@ fn fill(
     q: u64,
     from: usize,
     counted: u64,
-) -> Filled
-    requires { ⌜ Ready (now sheet) from (machine (now x) counted)
-        × (room ≤ length (now buffer)) × (m ≡ rank (now sheet)) × (q ≡ parameter (now sheet)) ⌝ }
-    ensures { λ r. ⌜ Piece (now (sheet .entry)) from (machine (now (x .entry)) counted)
-        (now (buffer .exit)) (r .used) (r .at) (machine (now (x .exit)) (r .count)) ⌝ }
+) -> Gathered
+    requires { ⌜ FillPre (now sheet) from (state (now x) counted) (now buffer) m q ⌝ }
+    ensures { λ r. ⌜ Piece (now (sheet .entry)) from (state (now (x .entry)) counted)
+        (now (buffer .exit)) (r .used) (r .at) (state (now (x .exit)) (r .count)) ⌝ }
 {
     let mut at = from;
     let mut count = counted;
@@ -43,22 +41,22 @@ fn fill(
     while at < sheet.len() && output::ROOM <= buffer.len() - used {
         let found = sheet_format::read(sheet, at);
         let Decoded::Found(command, after) = found else {
-            return Filled { at, count, used };
+            return Gathered { at, count, used };
         };
         used += output::text(m, q, command, x, count, &mut buffer[used..]);
         let obeyed = machine::step(m, q, command, x);
-        let Answer::Obeyed(n) = obeyed else {
-            return Filled { at, count, used };
+        let Stepped::Obeyed(n) = obeyed else {
+            return Gathered { at, count, used };
         };
         count += n;
         at = after;
     }
-    Filled { at, count, used }
+    Gathered { at, count, used }
 }
 
 // Obeys the commands of an accepted sheet, and writes what they print, one full buffer after another.
 fn obey_all(sheet: &[u8], buffer: &mut [u8])
-    requires { ⌜ (checkSheet (now sheet) ≡ Accepted) × (room ≤ length (now buffer)) ⌝ }
+    requires { ⌜ (checkSheet (now sheet) ≡ Accepted) × (textRoom ≤ length (now buffer)) ⌝ }
 {
     let m = sheet_format::rank(sheet);
     let q = sheet_format::parameter(sheet);

@@ -1,9 +1,9 @@
 -- The commands of an accepted sheet from an offset on: each is in range, and the next stands at the offset after it. Rests on sheet's Accepted
 -- and InRange.
 --
---   ahead s at            the commands of the sheet s from an offset on
---   Reaches s at          an offset that a run comes to, or the sheet's length
---   Onward s at c after   what is known of the command c at such an offset, and of the offset after it
+--   ahead s at              the commands of the sheet s from an offset on
+--   Reaches s at            an offset that a run comes to, or the sheet's length
+--   Standing s at c after   what is known of the command c at such an offset, and of the offset after it
 use mathlib.Core.Path.{_≡_, refl, sym, ap}
 use mathlib.Core.Logic.{⊎-elim}
 use mathlib.Core.Bool.{true}
@@ -32,7 +32,7 @@ pub record Reaches (s : List ℕ) (at : ℕ) : Type 0 where
   pub most : at ≤ length s
   pub accepted : at < length s → checkFrom s at ≡ Accepted
 
-pub record Onward (s : List ℕ) (at : ℕ) (c : Command) (after : ℕ) : Type 0 where
+pub record Standing (s : List ℕ) (at : ℕ) (c : Command) (after : ℕ) : Type 0 where
   pub range : inRange (rank s) c ≡ true
   pub on : at < after
   pub reaches : Reaches s after
@@ -53,9 +53,9 @@ module _ (s : List ℕ) where
   pub rank-low : checkSheet s ≡ Accepted → rank s ≤ 5
   rank-low a = let n = accepted-next s 0 (accepted-start s a .2) in low (rank s) (n .command) (n .good .range)
 
-  onward-next : (at : ℕ) (n : Next s at) → Onward s at (n .command) (n .after)
+  standing-next : (at : ℕ) (n : Next s at) → Standing s at (n .command) (n .after)
   unfolding placedFrom commands
-  onward-next at n = record {
+  standing-next at n = record {
     range = n .good .range;
     on = w .0;
     reaches = record { most = w .1; accepted = ⊎-elim (λ h l. absurd (omega (arith, h .1))) (λ h l. h .1) (n .rest) };
@@ -69,12 +69,12 @@ module _ (s : List ℕ) where
       w : (at < n .after) × (n .after ≤ length s)
       w = found-within s at (n .good .stands)
 
-  pub onward : {at after : ℕ} {c : Command} → Reaches s at → at < length s → decode s at ≡ Found c after → Onward s at c after
-  onward {at} {after} {c} r l d =
+  pub standing : {at after : ℕ} {c : Command} → Reaches s at → at < length s → decode s at ≡ Found c after → Standing s at c after
+  standing {at} {after} {c} r l d =
       let n = accepted-next s at (r .accepted l) in
       let e : n .command ≡ c = cc (n .good .stands) in
       let f : n .after ≡ after = cc (n .good .stands) in
-      rw (e, f) at (onward-next at n)
+      rw (e, f) at (standing-next at n)
 
   in-range-from : (k at : ℕ) → length s - at < k → Reaches s at → All (λ c. inRange (rank s) c ≡ true) (ahead s at)
   in-range-from zero at h r = absurd (omega arith)
@@ -83,7 +83,7 @@ module _ (s : List ℕ) where
       go : LessView at (length s) → ((at : ℕ) → length s - at < k → Reaches s at → All (λ c. inRange (rank s) c ≡ true) (ahead s at))
           → All (λ c. inRange (rank s) c ≡ true) (ahead s at)
       go (ge l e) ih = rw (ahead-end at l) tt
-      go (lt l e) ih = let n = accepted-next s at (r .accepted l) in let o = onward-next at n in
+      go (lt l e) ih = let n = accepted-next s at (r .accepted l) in let o = standing-next at n in
           rw (o .first) (o .range, ih (n .after) (omega arith) (o .reaches))
 
   pub all-in-range : checkSheet s ≡ Accepted → All (λ c. inRange (rank s) c ≡ true) (commands (placed s))

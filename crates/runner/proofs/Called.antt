@@ -27,20 +27,21 @@ module _ (s x : List ℕ) {a : Answer} where
 
   -- the registers were cleared to y, and are now z
   pub run-done : {n : ℕ} {y z : List ℕ} → checkSheet s ≡ Accepted → length x ≡ 2880 → y ≡ replicate (length x) 0
-      → obeyAll (rank s) (parameter s) (commands (placed s)) (record { words = y; count = 0 }) ≡ record { words = z; count = n } → a ≡ accepted n
+      → obeyAll (rank s) (parameter s) (commands (placed s)) (record { contents = y; count = 0 }) ≡ record { contents = z; count = n } → a ≡ accepted n
       → runCall s x ≡ record { answer = a; lent = z }
   unfolding runCall runVerdict
   run-done e four zeros done f =
-      let m = ap (λ w. obeyAll (rank s) (parameter s) (commands (placed s)) (record { words = w; count = 0 })) (sym (zeros ∙ ap (λ n. replicate n 0) four)) ∙ done in
-      ended-done refused x (rw (e, same-yes four) refl) (f ∙ ap (λ o. accepted (o .count)) (sym m)) (ap (λ o. o .words) (sym m))
+      let cleared = zeros ∙ ap (λ n. replicate n 0) four in
+      let m = ap (λ w. obeyAll (rank s) (parameter s) (commands (placed s)) (record { contents = w; count = 0 })) (sym cleared) ∙ done in
+      ended-done refused x (rw (e, same-yes four) refl) (f ∙ ap (λ o. accepted (o .count)) (sym m)) (ap (λ o. o .contents) (sym m))
 
 -- the call on registers of zeros
 pub run-given : (s : List ℕ) {a : Answer} {y : List ℕ} → runCall s (replicate 2880 0) ≡ record { answer = a; lent = y }
-    → given (a .verdict) (record { words = y; count = a .count }) ≡ runSheet s
+    → given (a .verdict) (record { contents = y; count = a .count }) ≡ runSheet s
 unfolding runCall runVerdict runSheet ended
-run-given s e = ap (λ o. given (o .answer .verdict) (record { words = o .lent; count = o .answer .count })) (sym e) ∙ go (checkSheet s) refl
+run-given s e = ap (λ o. given (o .answer .verdict) (record { contents = o .lent; count = o .answer .count })) (sym e) ∙ go (checkSheet s) refl
   where
     go : (v : Verdict) → checkSheet s ≡ v → let o = runCall s (replicate 2880 0) in
-        given (o .answer .verdict) (record { words = o .lent; count = o .answer .count }) ≡ given (checkSheet s) (ran (checkSheet s) s)
+        given (o .answer .verdict) (record { contents = o .lent; count = o .answer .count }) ≡ given (checkSheet s) (ran (checkSheet s) s)
     go Accepted e = rw (e, same-yes (length-replicate {A = ℕ} 2880 0)) refl
     go (Refused why) e = rw e refl

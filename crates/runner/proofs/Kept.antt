@@ -29,7 +29,7 @@ use Rattle.sheet.proofs.InRange.{Within, low, within}
 use Rattle.machine.specs.Registers.{element, put, zeros}
 use Rattle.machine.specs.Step.{obey}
 use Rattle.machine.proofs.Put.{element-size}
-use Rattle.runner.specs.Run.{Machine, after, obeyAll}
+use Rattle.runner.specs.Run.{State, after, obeyAll}
 
 pub record Kept (M : ℕ) (x : List ℕ) : Type 0 where
   pub four : length x ≡ 2880
@@ -102,8 +102,8 @@ module _ (m q : ℕ) where
       go (K.Pair a b) w k = k
       go (K.Equal a b) w k = k
 
-  pub kept-all : (cs : List Command) (x : Machine) → All (λ c. inRange m c ≡ true) cs → Kept (factorial (suc m)) (x .words)
-      → Kept (factorial (suc m)) (obeyAll m q cs x .words)
+  pub kept-all : (cs : List Command) (x : State) → All (λ c. inRange m c ≡ true) cs → Kept (factorial (suc m)) (x .contents)
+      → Kept (factorial (suc m)) (obeyAll m q cs x .contents)
   unfolding obeyAll
   kept-all [] x a k = k
-  kept-all (c ∷ cs) x a k = kept-all cs (after m q c x) (a .1) (kept-obey c (x .words) (low m c (a .0)) (within m c (a .0) refl) k)
+  kept-all (c ∷ cs) x a k = kept-all cs (after m q c x) (a .1) (kept-obey c (x .contents) (low m c (a .0)) (within m c (a .0) refl) k)

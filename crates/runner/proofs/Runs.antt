@@ -40,9 +40,11 @@ module _ {M : ℕ} {x : List ℕ} (k : Kept M x) (r : ℕ) (four : r < 4) where
       ∙ k .past r (M + i) four (omega arith) (omega arith)
       ∙ sym (getD-replicate (720 - M) i 0 0 (omega arith)))
 
-kept : (s : List ℕ) (v : Verdict) → checkSheet s ≡ v → Kept (M s) (ran v s .words)
+kept : (s : List ℕ) (v : Verdict) → checkSheet s ≡ v → Kept (M s) (ran v s .contents)
 kept s (Refused why) e = kept-zeros (M s)
-kept s Accepted e = let low = rank-low s e in rw (less-no {x = 5} {a = rank s} low, size-is (rank s) (omega arith)) (kept-all (rank s) (parameter s) (commands (placed s)) start (all-in-range s e) (kept-zeros _))
+kept s Accepted e = let low = rank-low s e in
+    rw (less-no {x = 5} {a = rank s} low, size-is (rank s) (omega arith))
+    (kept-all (rank s) (parameter s) (commands (placed s)) start (all-in-range s e) (kept-zeros _))
 
 keeps : (s x : List ℕ) → Keeps (answerReport (runCall s x .answer)) x (runCall s x .lent)
 unfolding runCall runVerdict

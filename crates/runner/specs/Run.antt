@@ -1,14 +1,14 @@
 -- The run of a whole sheet (document 01, "Run sheets").
 --
---   Machine               the words of the registers and the count
+--   State                 the words of the registers and the count
 --   start                 zero elements, and the count 0
---   after m q c x         the machine after a command
---   obeyAll m q cs x      the machine after the commands cs, one after another
+--   after m q c x         the state after a command
+--   obeyAll m q cs x      the state after the commands cs, one after another
 --   commandOf found       the command that stands at an offset, if one does
 --   commands ps           the commands among what stands in a sheet
---   obeyed s              the machine after all commands of the sheet s
---   ran v s               the machine after the sheet s with the verdict v
---   given v x             the verdict and the machine as they are given back
+--   obeyed s              the state after all commands of the sheet s
+--   ran v s               the state after the sheet s with the verdict v
+--   given v x             the verdict and the state as they are given back
 --   runSheet s            what the run of a sheet gives back
 --   finishedReport f      number, place and count of what is given back
 --   runVerdict s x        9 to 14: on the sheet; then 8: on lent registers x, which are to be 4 × 720 words
@@ -32,17 +32,17 @@ use Rattle.machine.specs.Registers.{register}
 use Rattle.machine.specs.Step.{obey, cost}
 use Rattle.runner.specs.declared.Finished.{Finished}
 
-pub record Machine : Type 0 where
-  pub words : List ℕ
+pub record State : Type 0 where
+  pub contents : List ℕ
   pub count : ℕ
 
-abbrev pub start : Machine
-start = record { words = replicate 2880 0; count = 0 }
+abbrev pub start : State
+start = record { contents = replicate 2880 0; count = 0 }
 
-abbrev pub after : ℕ → ℕ → Command → Machine → Machine
-after m q c x = record { words = obey m q c (x .words); count = x .count + cost m c }
+abbrev pub after : ℕ → ℕ → Command → State → State
+after m q c x = record { contents = obey m q c (x .contents); count = x .count + cost m c }
 
-unfoldable pub obeyAll : ℕ → ℕ → List Command → Machine → Machine
+unfoldable pub obeyAll : ℕ → ℕ → List Command → State → State
 obeyAll m q [] x = x
 obeyAll m q (c ∷ cs) x = obeyAll m q cs (after m q c x)
 
@@ -56,19 +56,19 @@ unfoldable pub commands : List Placed → List Command
 commands [] = []
 commands (p ∷ ps) = commandOf (p .found) ++ commands ps
 
-abbrev pub obeyed : List ℕ → Machine
+abbrev pub obeyed : List ℕ → State
 obeyed s = obeyAll (rank s) (parameter s) (commands (placed s)) start
 
-abbrev pub ran : Verdict → List ℕ → Machine
+abbrev pub ran : Verdict → List ℕ → State
 ran Accepted s = obeyed s
 ran (Refused why) s = start
 
-abbrev pub given : Verdict → Machine → Finished
+abbrev pub given : Verdict → State → Finished
 given v x = record {
-  register0 = register 0 (x .words);
-  register1 = register 1 (x .words);
-  register2 = register 2 (x .words);
-  register3 = register 3 (x .words);
+  register0 = register 0 (x .contents);
+  register1 = register 1 (x .contents);
+  register2 = register 2 (x .contents);
+  register3 = register 3 (x .contents);
   count = x .count;
   ending = v;
 }
@@ -83,4 +83,4 @@ unfoldable pub runVerdict : List ℕ → List ℕ → Verdict
 runVerdict s x = checkSheet s then unless (not (same (length x) 2880)) Buffer
 
 unfoldable pub runCall : List ℕ → List ℕ → Outcome Answer (List ℕ)
-runCall s x = ended (runVerdict s x) refused (accepted (obeyed s .count)) x (obeyed s .words)
+runCall s x = ended (runVerdict s x) refused (accepted (obeyed s .count)) x (obeyed s .contents)

@@ -1,9 +1,9 @@
 -- What holds of the run of every sheet.
 --
---   words s     the words of the registers after the sheet s
---   M s         the words of an element of its rank, and 0 where no sheet has this rank
---   Runs s      the claim: each register has 720 words and is zero past M; a refused sheet leaves all words zero and the count 0, by its report too; in an accepted
---               sheet each command is in range, so that the step obeys it; on lent registers a refusal counts 0 and leaves them as they were
+--   finalWords s   the words of the registers after the sheet s
+--   M s            the words of an element of its rank, and 0 where no sheet has this rank
+--   Runs s         the claim: each register has 720 words and is zero past M; a refused sheet leaves all words zero and the count 0, by its report too; in an
+--                  accepted sheet each command is in range, so that the step obeys it; on lent registers a refusal counts 0 and leaves them as they were
 use mathlib.Core.Path.{_≡_}
 use mathlib.Core.Bool.{true, cond}
 use mathlib.Core.List.{List}
@@ -19,15 +19,15 @@ use Rattle.sheet.specs.Check.{inRange, placed, checkSheet}
 use Rattle.machine.specs.Registers.{register}
 use Rattle.runner.specs.Run.{start, commands, ran, runSheet, finishedReport, runCall}
 
-abbrev pub words : List ℕ → List ℕ
-words s = ran (checkSheet s) s .words
+abbrev pub finalWords : List ℕ → List ℕ
+finalWords s = ran (checkSheet s) s .contents
 
 abbrev pub M : List ℕ → ℕ
 M s = cond (less 5 (rank s)) 0 (size (rank s))
 
 pub record Runs (s : List ℕ) : Type 0 where
-  pub four : (r : ℕ) → r < 4 → length (register r (words s)) ≡ 720
-  pub past : (r : ℕ) → r < 4 → drop (M s) (register r (words s)) ≡ replicate (720 - M s) 0
+  pub four : (r : ℕ) → r < 4 → length (register r (finalWords s)) ≡ 720
+  pub past : (r : ℕ) → r < 4 → drop (M s) (register r (finalWords s)) ≡ replicate (720 - M s) 0
   pub report : Refuses (finishedReport (runSheet s))
   pub refused : (why : Refusal) → checkSheet s ≡ Refused why → ran (checkSheet s) s ≡ start
   pub obeyed : checkSheet s ≡ Accepted → All (λ c. inRange (rank s) c ≡ true) (commands (placed s))

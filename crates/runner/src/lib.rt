@@ -8,7 +8,7 @@ ghost use Rattle.sheet_format.specs.Format.{rank, parameter};
 ghost use Rattle.sheet.specs.Check.{placed, checkSheet};
 ghost use Rattle.machine.specs.Registers.{register};
 ghost use Rattle.runner.specs.Run.{obeyAll, commands, runCall, runSheet};
-use machine::Answer;
+use machine::Stepped;
 use refusals::Refusal;
 use refusals::Verdict;
 use sheet_format::Decoded;
@@ -27,8 +27,8 @@ pub struct Finished {
 fn obey_all(x: &mut [u64], sheet: &[u8]) -> u64
     requires { ⌜ (length (now x) ≡ 2880) × (checkSheet (now sheet) ≡ Accepted) ⌝ }
     ensures { λ n. ⌜ obeyAll (rank (now (sheet .entry))) (parameter (now (sheet .entry))) (commands (placed (now (sheet .entry))))
-        (record { words = now (x .entry); count = 0 })
-        ≡ record { words = now (x .exit); count = n } ⌝ }
+        (record { contents = now (x .entry); count = 0 })
+        ≡ record { contents = now (x .exit); count = n } ⌝ }
 {
     let m = sheet_format::rank(sheet);
     let q = sheet_format::parameter(sheet);
@@ -40,7 +40,7 @@ fn obey_all(x: &mut [u64], sheet: &[u8]) -> u64
             return count;
         };
         let obeyed = machine::step(m, q, command, x);
-        let Answer::Obeyed(n) = obeyed else {
+        let Stepped::Obeyed(n) = obeyed else {
             return count;
         };
         count += n;

@@ -18,7 +18,7 @@ use Rattle.sheet_format.proofs.Offsets.{found-within}
 use Rattle.sheet.specs.Check.{isEnd, checkSheet}
 use Rattle.sheet.specs.Table.{Good}
 use Rattle.sheet.proofs.CheckFrom.{checkFrom, from-start, stands}
-use Rattle.sheet.proofs.Cases.{Case, nothing, unknown, short, disordered, outside, end, on, case?, order-fails, range-fails, good-on, good-end}
+use Rattle.sheet.proofs.Cases.{Kind, nothing, unknown, short, disordered, outside, end, on, kind?, order-fails, range-fails, good-on, good-end}
 
 refused : {why : Refusal} → Refused why ≡ Accepted → ⊥
 refused e = let z : _≡_ {A = ℕ} 0 1 = cc in omega arith
@@ -33,9 +33,9 @@ pub record Next (s : List ℕ) (at : ℕ) : Type 0 where
 
 pub accepted-next : (s : List ℕ) (at : ℕ) → checkFrom s at ≡ Accepted → Next s at
 unfolding isEnd same
-accepted-next s at a = go (case? s at)
+accepted-next s at a = go (kind? s at)
   where
-    go : Case s at → Next s at
+    go : Kind s at → Next s at
     go (nothing d) = absurd (refused (sym (stands s at d) ∙ a))
     go (unknown d) = absurd (refused (sym (stands s at d) ∙ a))
     go (short d) = absurd (refused (sym (stands s at d) ∙ a))

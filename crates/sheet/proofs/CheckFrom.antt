@@ -17,7 +17,7 @@ use Rattle.sheet_format.specs.Format.{decode, rank}
 use Rattle.sheet_format.specs.declared.Decoded.{Decoded}
 use Rattle.sheet_format.specs.declared.Decoded.the-variants.{Found, NoCommand, Short, Nothing}
 use Rattle.sheet_format.proofs.Offsets.{found-within, past-end}
-use Rattle.sheet.specs.Check.{isEnd, inOrder, inRange, Placed, onward, placedFrom, placed, judge, firstRefusal}
+use Rattle.sheet.specs.Check.{isEnd, inOrder, inRange, Placed, following, placedFrom, placed, judge, firstRefusal}
 use Rattle.sheet.specs.Steps.{judgedCommand, judged}
 use Rattle.sheet.specs.declared.checks.Judged.{Judged}
 use Rattle.sheet.specs.declared.checks.Judged.the-variants.{On, Done}
@@ -45,14 +45,14 @@ settle s at after rest true true false l h = h
 settle s at after rest true true true true h = refl
 settle s at after rest true true true false h = refl
 
-pub step : (s : List ℕ) (at : ℕ) → checkFrom s at ≡ follow s (judged (length s) (rank s) at (decode s at))
+pub check-step : (s : List ℕ) (at : ℕ) → checkFrom s at ≡ follow s (judged (length s) (rank s) at (decode s at))
 unfolding placedFrom firstRefusal judgedCommand
-step s at = go (decode s at) refl
+check-step s at = go (decode s at) refl
   where
     left : ℕ
     left = length s - at
 
-    go : (d : Decoded) → decode s at ≡ d → (judge s at d then firstRefusal s (onward d (placedFrom left s))) ≡ follow s (judged (length s) (rank s) at d)
+    go : (d : Decoded) → decode s at ≡ d → (judge s at d then firstRefusal s (following d (placedFrom left s))) ≡ follow s (judged (length s) (rank s) at d)
     go NoCommand e = refl
     go Short e = refl
     go Nothing e = refl
@@ -61,7 +61,7 @@ step s at = go (decode s at) refl
         (ap (firstRefusal s) (placed-enough left (suc (length s - after)) s after (omega arith) (omega arith)))
 
 pub stands : {d : Decoded} (s : List ℕ) (at : ℕ) → decode s at ≡ d → checkFrom s at ≡ follow s (judged (length s) (rank s) at d)
-stands s at e = step s at ∙ ap (λ d. follow s (judged (length s) (rank s) at d)) e
+stands s at e = check-step s at ∙ ap (λ d. follow s (judged (length s) (rank s) at d)) e
 
 pub from-end : (s : List ℕ) (at : ℕ) → length s ≤ at → checkFrom s at ≡ Refused (Ending at)
 from-end s at h = stands s at (past-end s at h)

@@ -21,7 +21,7 @@ use Rattle.sheet_format.proofs.Offsets.{found-within, past-end, nothing-past}
 use Rattle.sheet.specs.Check.{isEnd, checkSheet}
 use Rattle.sheet.specs.Table.{Good, Link, Leads, Reached, Ended, Says, Passes, Exactly}
 use Rattle.sheet.proofs.CheckFrom.{checkFrom, stands}
-use Rattle.sheet.proofs.Cases.{Case, nothing, unknown, short, disordered, outside, end, on, case?, order-fails, range-fails, good-on, good-end}
+use Rattle.sheet.proofs.Cases.{Kind, nothing, unknown, short, disordered, outside, end, on, kind?, order-fails, range-fails, good-on, good-end}
 use Rattle.sheet.proofs.Accepted.{sized, missized, size?}
 
 -- ---- the table says what the check finds
@@ -48,7 +48,7 @@ module _ {s : List ℕ} {at : ℕ} {c : Command} {after : ℕ} (g : Good s at c 
 
 found-from : (k : ℕ) (s : List ℕ) (at : ℕ) → length s - at < k → at ≤ length s → Reached s at → Holds s (checkFrom s at)
 found-from zero s at h m r = absurd (omega arith)
-found-from (suc k) s at h m r = go (case? s at) (found-from k s)
+found-from (suc k) s at h m r = go (kind? s at) (found-from k s)
   where
     place : at ≤ 4096
     place = omega (arith, r .most)
@@ -58,7 +58,7 @@ found-from (suc k) s at h m r = go (case? s at) (found-from k s)
     ended after g (ge l e) = let w = found-within s at (g .stands) in
         rw (good-end s at g, e) (subst (Ended s) (omega arith) (record { at = at; reached = r; good = g }))
 
-    go : Case s at → ((after : ℕ) → length s - after < k → after ≤ length s → Reached s after → Holds s (checkFrom s after)) → Holds s (checkFrom s at)
+    go : Kind s at → ((after : ℕ) → length s - after < k → after ≤ length s → Reached s after → Holds s (checkFrom s after)) → Holds s (checkFrom s at)
     go (nothing d) ih = let past = nothing-past s at d in rw (stands s at d) (inl (r, omega arith), place)
     go (unknown d) ih = rw (stands s at d) ((r, d), place)
     go (short d) ih = rw (stands s at d) ((r, d), place)

@@ -23,9 +23,9 @@ pub same-test : {x y : ℕ} (a : ℕ) → x ≡ y → eqb x a ≡ same y a
 unfolding same
 same-test a e = ap (λ x. eqb x a) e
 
-pub at-most : (x a : ℕ) → leb x a ≡ not (less a x)
+pub not-less : (x a : ℕ) → leb x a ≡ not (less a x)
 unfolding less
-at-most x a = sym (leb·suc-suc x a) ∙ go (less? a x)
+not-less x a = sym (leb·suc-suc x a) ∙ go (less? a x)
   where
     go : LessView a x → less x (suc a) ≡ not (less a x)
     go (lt h e) = rw e (less-no h)

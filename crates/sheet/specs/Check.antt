@@ -6,7 +6,7 @@
 --   operandsInRange m c           the operands are in range in a sheet of rank m; that of begin is m itself
 --   inRange m c                   m is the rank of a sheet, from 0 to 5, and the operands are in range
 --   Placed                        an offset, with what stands there
---   onward found rest             what follows a command that is not the end; rest gives what stands from an offset on
+--   following found rest          what follows a command that is not the end; rest gives what stands from an offset on
 --   placedFrom n s at             what stands in the sheet s from an offset on, up to the first end command or to what is no command, n at most
 --   placed s                      the same of a whole sheet; a command has a byte or more, so that n is no limit
 --   judge s at found              10 to 14: on what stands at an offset
@@ -74,15 +74,15 @@ pub record Placed : Type 0 where
   pub offset : ℕ
   pub found : Decoded
 
-abbrev pub onward : Decoded → (ℕ → List Placed) → List Placed
-onward (Found c after) rest = cond (isEnd c) [] (rest after)
-onward NoCommand rest = []
-onward Short rest = []
-onward Nothing rest = []
+abbrev pub following : Decoded → (ℕ → List Placed) → List Placed
+following (Found c after) rest = cond (isEnd c) [] (rest after)
+following NoCommand rest = []
+following Short rest = []
+following Nothing rest = []
 
 unfoldable pub placedFrom : ℕ → List ℕ → ℕ → List Placed
 placedFrom zero s at = []
-placedFrom (suc n) s at = record { offset = at; found = decode s at } ∷ onward (decode s at) (placedFrom n s)
+placedFrom (suc n) s at = record { offset = at; found = decode s at } ∷ following (decode s at) (placedFrom n s)
 
 unfoldable pub placed : List ℕ → List Placed
 placed s = placedFrom (suc (length s)) s 0

@@ -3,4 +3,6 @@ mod Codes
 mod Numbers
 pub mod Offsets
 -- the reader
+mod Contracts
+mod Walks
 mod Held

@@ -13,27 +13,37 @@ use Rattle.element_calls.proofs.Calls.{write-done}
 use Rattle.linear.proofs.scale.Statement.{statement}
 use Rattle.linear.proofs.scale.Tie as tie
 
+-- ---- places: the beginning, the check of the first slice, and the multiple
+
+abbrev first : tie.After-then2 → tie.After-sized
+first c = c .before .before .before
+
 abbrev start : tie.After-then2 → tie.Start
-start c = c .before .before .before .before .before .before .before
+start c = first c .before .before .before .before
+
+abbrev written : tie.After-accepted → tie.After-scale-into
+written c = c .before .before .before .before
+
+-- ---- the needs
 
 -- the row of checks
 row : (c : tie.After-then2) → let u = start c .args in let size = sizeVerdict (u .m) in
     c .then2 .result ≡ (rankVerdict (u .m) then size (length (u .element .now)) then size (length (u .result .now)))
 row c =
-    let second = c .before in let first = second .before .before in
-    both (c .then2 .ensures) (both (second .before .then .ensures) (first .before .rank .ensures) (first .sized .ensures)) (second .sized2 .ensures)
+    let second = c .before in
+    both (c .then2 .ensures) (both (second .before .then .ensures) (first c .before .rank .ensures) (first c .sized .ensures)) (second .sized2 .ensures)
 
 returns : tie.Need-returns
 unfolding scaleCall
-returns c = ended-refused refused _ _ _ (sym (row (c .before .before .before .before)) ∙ c .before .before .checked .given .1) (c .refused .ensures)
+returns c = let k = c .before .before in ended-refused refused _ _ _ (sym (row (k .before .before)) ∙ k .checked .given .1) (c .refused .ensures)
 
 returns-2 : tie.Need-returns-2
 unfolding scaleCall
 returns-2 c =
-    let told = c .before .before .before .before .before .before in
+    let told = written c .before .before in
     let verdict = sym (row (told .before .before)) ∙ told .enum-told .given .1 in
     let good = two-accepted _ _ _ verdict in
-    write-done _ _ _ _ verdict (c .before .before .before .before .scale-into .ensures ∙ scale-into _ _ _ (good .2 ∙ sym (good .1)))
+    write-done _ _ _ _ verdict (written c .scale-into .ensures ∙ scale-into _ _ _ (good .2 ∙ sym (good .1)))
     (c .before .size .ensures ∙ size-is _ (good .0)) (c .accepted .ensures)
 
 pub scale-spec : {M : Type 1} → statement M

@@ -31,15 +31,15 @@ set c κs = let k = c .before .before in let w = arm (k .before .before) (k .com
 
 letter : tie.Need-letter-requires
 letter c κs = let k = c .before .before in let w = arm (k .before .before) (k .command3 .given .1) in
-    (w .0, omega (arith, w .1), omega (arith, w .1), omega (arith, w .1))
+    record { registers = w .0; one = omega (arith, w .1); least = omega (arith, w .1); most = omega (arith, w .1) }
 
 product : tie.Need-product-requires
 product c κs = let k = c .before .before in let w = arm (k .before .before) (k .command4 .given .1) in
-    (w .0, omega (arith, w .1), omega (arith, w .1), omega (arith, w .1))
+    record { registers = w .0; result = omega (arith, w .1); left = omega (arith, w .1); right = omega (arith, w .1) }
 
 sum : tie.Need-sum-requires
 sum c κs = let k = c .before .before in let w = arm (k .before .before) (k .command5 .given .1) in
-    (w .0, omega (arith, w .1), omega (arith, w .1), omega (arith, w .1))
+    record { registers = w .0; result = omega (arith, w .1); left = omega (arith, w .1); right = omega (arith, w .1) }
 
 multiple : tie.Need-multiple-requires
 multiple c κs = let k = c .before .before in let w = arm (k .before .before) (k .command6 .given .1) in (w .0, omega (arith, w .1))

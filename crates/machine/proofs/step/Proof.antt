@@ -8,11 +8,21 @@ use lib.ListN.{length}
 use Rattle.lists.proofs.Test.{same-yes, same-no, not-false}
 use Rattle.sheet.specs.Check.{inRange}
 use Rattle.machine.specs.Step.{stepCall}
-use Rattle.machine.specs.declared.Answer.the-variants.{Obeyed}
+use Rattle.machine.specs.declared.Stepped.the-variants.{Obeyed}
 use Rattle.machine.proofs.step.Statement.{statement}
 use Rattle.machine.proofs.step.Tie as tie
 
-ranged : (c : tie.Else2) → let start = c .before .before .before .before .args in inRange (start .m) (start .command) ≡ true
+-- ---- places: the beginning, and past the test of the size
+
+abbrev start : tie.Else1 → tie.Start
+start c = c .before .before
+
+abbrev sized : tie.Else2 → tie.Else1
+sized c = c .before .before
+
+-- ---- the needs
+
+ranged : (c : tie.Else2) → let u = start (sized c) .args in inRange (u .m) (u .command) ≡ true
 ranged c = sym (c .before .in-range .ensures) ∙ not-false _ (c .if2 .left)
 
 returns : tie.Need-returns
@@ -28,8 +38,8 @@ obey-requires c κs = (omega arith, ranged (c .before))
 
 returns-3 : tie.Need-returns-3
 unfolding stepCall
-returns-3 c = let done = c .before .before in let e = done .obey .ensures in let start = done .before .before .before .before .before .before in
-    rw (ranged (done .before .before), same-yes {x = length (start .args .x .now)} {a = 2880} (omega arith))
+returns-3 c = let done = c .before .before in let e = done .obey .ensures in let judged = done .before .before in
+    rw (ranged judged, same-yes {x = length (start (sized judged) .args .x .now)} {a = 2880} (omega arith))
     (λ i. record { answer = Obeyed (sym (e .1) i); lent = sym (e .0) i })
 
 pub step-spec : {M : Type 1} → statement M

@@ -8,18 +8,28 @@ use Rattle.refusals.proofs.Verdicts.{number-within}
 use Rattle.output.specs.Text.{errorRoom}
 use Rattle.output.specs.Printed.{errorCall}
 use Rattle.output.proofs.LineLengths.{error-short}
-use Rattle.output.proofs.Overwrite.{written-none}
+use Rattle.output.proofs.Overwritten.{overwritten-none}
 use Rattle.output.proofs.Front.{front-written}
 use Rattle.output.proofs.error.Statement.{statement}
 use Rattle.output.proofs.error.Tie as tie
 
+-- ---- places: the beginning, and past the test of the buffer
+
+abbrev start : tie.Else1 → tie.Start
+start c = c .before .before
+
+abbrev large : tie.After-place-of → tie.Else1
+large c = c .before .before .before
+
+-- ---- the needs
+
 returns : tie.Need-returns
 unfolding errorCall
-returns c = rw (less-yes {x = length (c .before .before .args .buffer .now)} {a = errorRoom} (omega arith)) (front-written (written-none 0 _))
+returns c = rw (less-yes {x = length (c .before .before .args .buffer .now)} {a = errorRoom} (omega arith)) (front-written (overwritten-none 0 _))
 
 put-tagged-pair-requires : tie.Need-put-tagged-pair-requires
 put-tagged-pair-requires c κs =
-    let few = number-within (c .before .before .before .before .before .args .why) .1 in
+    let few = number-within (start (large c) .args .why) .1 in
     le-trans (error-short _ _ _ (omega (arith, few, c .before .number-of .ensures)) (omega arith)) (omega arith)
 
 returns-2 : tie.Need-returns-2
@@ -27,7 +37,7 @@ unfolding errorCall
 returns-2 c =
     let put = c .before .before in
     let placed = put .before in
-    let u = placed .before .before .before .before .before .args in
+    let u = start (large placed) .args in
     rw (less-no {x = length (u .buffer .now)} {a = errorRoom} (omega arith))
     (front-written (rw (placed .before .number-of .ensures, placed .place-of .ensures) at (put .put-tagged-pair .ensures)))
 

@@ -8,33 +8,46 @@ use Rattle.output.proofs.Lent.{held, few}
 use Rattle.output.proofs.put_pairing.Statement.{statement}
 use Rattle.output.proofs.put_pairing.Tie as tie
 
+-- ---- places: the beginning, the size, and the pairing
+
+abbrev start : tie.After-size → tie.Start
+start c = c .before .before .before
+
+abbrev size : tie.After-pairing → tie.After-size
+size c = c .before .before .before
+
+abbrev paired : tie.After-put-line → tie.After-pairing
+paired c = c .before .before
+
+-- ---- the needs
+
 pairing-requires : tie.Need-pairing-requires
 pairing-requires c κs =
     let sized = c .before .before in
-    let s0 = sized .before .before .before in
+    let s0 = start sized in
     let z = held (s0 .pre .0) (sized .size .ensures) in
     record { low = s0 .pre .0 .low; left = lent-size z (omega arith); right = lent-size z (omega arith) }
 
 put-line-requires : tie.Need-put-line-requires
 put-line-requires c κs =
-    le-trans (line-short _ _ (omega arith)) (omega (arith, c .before .before .before .before .before .before .before .pre .0 .large))
+    le-trans (line-short _ _ (omega arith)) (omega (arith, start (size (c .before)) .pre .0 .large))
 
 returns : tie.Need-returns
 returns c =
-    let paired = c .before .before .before .before in
-    let sized = paired .before .before .before in
-    let s0 = sized .before .before .before in
+    let put = c .before .before in
+    let sized = size (paired put) in
+    let s0 = start sized in
     let z = held (s0 .pre .0) (sized .size .ensures) in
-    rw (paired .pairing .ensures, lent-is z (s0 .pre .1), lent-is z (s0 .pre .2)) at (c .before .before .put-line .ensures)
+    rw (paired put .pairing .ensures, lent-is z (s0 .pre .1), lent-is z (s0 .pre .2)) at (put .put-line .ensures)
 
 pub put-pairing-spec : {M : Type 1} → statement M
 put-pairing-spec =
     tie.close
     (tie.spec (λ c κs. search needs) (λ c. search needs) (λ c. search needs)
-    (λ c. omega (arith, few (c .before .before .before .pre .0) (c .size .ensures)))
+    (λ c. omega (arith, few (start c .pre .0) (c .size .ensures)))
     (λ c. search needs) (λ c. search needs) (λ c. search needs)
-    (λ c. omega (arith, few (c .before .before .before .pre .0) (c .size .ensures)))
-    (λ c. omega (arith, few (c .before .before .before .before .pre .0) (c .before .size .ensures)))
+    (λ c. omega (arith, few (start c .pre .0) (c .size .ensures)))
+    (λ c. omega (arith, few (start (c .before) .pre .0) (c .before .size .ensures)))
     (λ c. search needs) (λ c. search needs) (λ c. search needs)
-    (λ c. omega (arith, few (c .before .before .before .before .pre .0) (c .before .size .ensures)))
+    (λ c. omega (arith, few (start (c .before) .pre .0) (c .before .size .ensures)))
     pairing-requires put-line-requires (λ c. search needs) returns)

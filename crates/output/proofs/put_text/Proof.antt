@@ -5,34 +5,38 @@ use borrow.Author.Needs.{needs}
 use Rattle.sheet.proofs.InRange.{within}
 use Rattle.output.specs.Printed.{text}
 use Rattle.output.proofs.LineLengths.{line-short, tagged-pair-short}
-use Rattle.output.proofs.Overwrite.{written-none}
+use Rattle.output.proofs.Overwritten.{overwritten-none}
 use Rattle.output.proofs.put_text.Statement.{statement}
 use Rattle.output.proofs.put_text.Tie as tie
 
+-- the beginning, from where the slices are known
+abbrev start : tie.After-shared-slice-known → tie.Start
+start c = c .before .before
+
 end-room : tie.Need-put-line-requires
-end-room c κs = le-trans (line-short _ _ (omega arith)) (omega (arith, c .before .before .before .before .before .pre .0 .large))
+end-room c κs = le-trans (line-short _ _ (omega arith)) (omega (arith, start (c .before .before .before) .pre .0 .large))
 
 begin-room : tie.Need-put-tagged-pair-requires
-begin-room c κs =
-    le-trans (tagged-pair-short _ _ _ (omega arith) (omega arith)) (omega (arith, c .before .before .before .before .before .before .pre .0 .large))
+begin-room c κs = let found = c .before .before in
+    le-trans (tagged-pair-short _ _ _ (omega arith) (omega arith)) (omega (arith, start (found .before .before) .pre .0 .large))
 
 show-pre : tie.Need-put-register-requires
 show-pre c κs =
     let found = c .before .before in
-    let s0 = found .before .before .before .before in
+    let s0 = start (found .before .before) in
     (s0 .pre .0, within (s0 .args .m) _ (s0 .pre .1) (found .command2 .given .1))
 
 pair-pre : tie.Need-put-pairing-requires
 pair-pre c κs =
     let found = c .before .before in
-    let s0 = found .before .before .before .before in
+    let s0 = start (found .before .before) in
     let two = within (s0 .args .m) _ (s0 .pre .1) (found .command3 .given .1) in
     (s0 .pre .0, omega (arith, two), omega (arith, two))
 
 equal-pre : tie.Need-put-equality-requires
 equal-pre c κs =
     let found = c .before .before in
-    let s0 = found .before .before .before .before in
+    let s0 = start (found .before .before) in
     let two = within (s0 .args .m) _ (s0 .pre .1) (found .command4 .given .1) in
     (s0 .pre .0, omega (arith, two), omega (arith, two))
 
@@ -44,12 +48,12 @@ put-text-spec =
     (λ c. search needs) (λ c. search needs) (λ c. search needs) show-pre (λ c. search needs) pair-pre (λ c. search needs) equal-pre
     (λ c. search needs) (λ c. let put = c .before .before in rw (put .before .before .enum-told .given .1) (put .put-line .ensures))
     (λ c. search needs) (λ c. let put = c .before .before in rw (put .before .before .before .command .given .1) (put .put-tagged-pair .ensures))
-    (λ c. rw (c .enum-told2 .given .1) (written-none 0 _))
-    (λ c. rw (c .enum-told3 .given .1) (written-none 0 _))
-    (λ c. rw (c .enum-told4 .given .1) (written-none 0 _))
-    (λ c. rw (c .enum-told5 .given .1) (written-none 0 _))
-    (λ c. rw (c .enum-told6 .given .1) (written-none 0 _))
-    (λ c. rw (c .enum-told7 .given .1) (written-none 0 _))
+    (λ c. rw (c .enum-told2 .given .1) (overwritten-none 0 _))
+    (λ c. rw (c .enum-told3 .given .1) (overwritten-none 0 _))
+    (λ c. rw (c .enum-told4 .given .1) (overwritten-none 0 _))
+    (λ c. rw (c .enum-told5 .given .1) (overwritten-none 0 _))
+    (λ c. rw (c .enum-told6 .given .1) (overwritten-none 0 _))
+    (λ c. rw (c .enum-told7 .given .1) (overwritten-none 0 _))
     (λ c. search needs) (λ c. let put = c .before .before in rw (put .before .before .before .command2 .given .1) (put .put-register .ensures))
     (λ c. search needs) (λ c. let put = c .before .before in rw (put .before .before .before .command3 .given .1) (put .put-pairing .ensures))
     (λ c. search needs) (λ c. let put = c .before .before in rw (put .before .before .before .command4 .given .1) (put .put-equality .ensures)))

@@ -4,43 +4,60 @@ use Prim.Native.Nat.{_-_}
 use native.Mathlib.Omega.{arith}
 use lib.ListN.{length}
 use borrow.Author.Needs.{needs}
-use Rattle.run_sheet.specs.Pieces.{machine}
+use Rattle.run_sheet.specs.Pieces.{state}
 use Rattle.run_sheet.proofs.Whole.{Printing, printing-none, printing-more}
 use Rattle.run_sheet.proofs.obey_all.Statement.{statement}
 use Rattle.run_sheet.proofs.obey_all.Tie as tie
 
 abbrev Inv-loop : tie.InvT-loop
-Inv-loop sheet buffer₀ m q x₀ count₀ at₀ buffer x count at = Printing sheet at (machine x count) × (length buffer ≡ length buffer₀)
+Inv-loop sheet buffer₀ m q x₀ count₀ at₀ buffer x count at = Printing sheet at (state x count) × (length buffer ≡ length buffer₀)
 
 abbrev μ-loop : tie.MeasureT-loop
 μ-loop sheet buffer₀ m q x₀ count₀ at₀ buffer x count at = length sheet - at
 
+-- ---- the way back: to where a piece is filled, to the loop's head, to the beginning
+
+abbrev filled : tie.After-buffer2 Inv-loop μ-loop → tie.After-fill Inv-loop μ-loop
+filled c = c .before .before .before .before
+
+abbrev head : tie.After-fill-arg Inv-loop μ-loop → tie.At-loop Inv-loop μ-loop
+head c = c .before .before .before
+
+abbrev start : tie.After-parameter Inv-loop μ-loop → tie.Start Inv-loop μ-loop
+start c = c .before .before .before .before
+
+-- ---- the needs
+
 loop-holds : tie.Need-loop-holds Inv-loop μ-loop
-loop-holds c = (printing-none refl (c .before .before .before .before .pre .0), refl)
+loop-holds c = (printing-none refl (start c .pre .0), refl)
 
 slice-aggregate-fill : tie.Need-slice-aggregate-fill Inv-loop μ-loop
 slice-aggregate-fill c = sym (c .before .before .loop .inv .0 .ready .four)
 
 fill-requires : tie.Need-fill-requires Inv-loop μ-loop
 fill-requires c κs =
-    let at = c .before .before .before in
+    let at = head c in
     let told = at .before in
-    let roomy = told .before .before .before .before .pre .1 in
-    (at .loop .inv .0 .ready, omega (arith, roomy, at .loop .inv .1), told .before .rank .ensures, told .parameter .ensures)
+    record {
+      ready = at .loop .inv .0 .ready;
+      large = omega (arith, start told .pre .1, at .loop .inv .1);
+      rank-is = told .before .rank .ensures;
+      word-is = told .parameter .ensures;
+    }
 
 part-write-all-end : tie.Need-part-write-all-end Inv-loop μ-loop
-part-write-all-end c = c .before .before .before .before .fill .ensures .within
+part-write-all-end c = filled c .fill .ensures .within
 
 loop-less : tie.Need-loop-less Inv-loop μ-loop
 loop-less c =
-    let call = c .before .before .before .before .before .before in
-    let at = call .before .before .before in
-    omega (arith, at .loop-test .taken, call .fill .ensures .on (at .loop-test .taken))
+    let call = filled (c .before .before) in
+    let test = call .before .before .before .loop-test in
+    omega (arith, test .taken, call .fill .ensures .on (test .taken))
 
 loop-again : tie.Need-loop-again Inv-loop μ-loop
 loop-again c =
-    let call = c .before .before .before .before .before .before in
-    let at = call .before .before .before .before .loop in
+    let call = filled (c .before .before) in
+    let at = head (call .before) .loop in
     (printing-more (at .inv .0) (call .fill .ensures), call .fill .kept .1 .1 .0 ∙ at .inv .1)
 
 pub obey-all-spec : {M : Type 1} → statement M

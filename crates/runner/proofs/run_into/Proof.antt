@@ -8,20 +8,27 @@ use Rattle.runner.proofs.Called.{sheet-refused, registers-refused, run-
 use Rattle.runner.proofs.run_into.Statement.{statement}
 use Rattle.runner.proofs.run_into.Tie as tie
 
+-- ---- places: the beginning, the check from where its refusal is found, and where the registers are cleared
+
 abbrev start : tie.After-check → tie.Start
 start c = c .before .before .before
+
+abbrev judged : tie.After-checked → tie.After-check
+judged c = c .before .before
+
+abbrev cleared : tie.After-obey-all-arg → tie.After-clear
+cleared c = c .before .before .before
+
+-- ---- the needs
 
 passed : (c : tie.After-enum-told) → checkSheet (start (c .before .before) .args .sheet .now) ≡ Accepted
 passed c = sym (c .before .before .check .ensures) ∙ c .enum-told .given .1
 
 returns : tie.Need-returns
-returns c = sheet-refused _ _ (sym (c .before .before .before .before .check .ensures) ∙ c .before .before .checked .given .1) (c .refused .ensures)
+returns c = let k = c .before .before in sheet-refused _ _ (sym (judged k .check .ensures) ∙ k .checked .given .1) (c .refused .ensures)
 
 returns-2 : tie.Need-returns-2
 returns-2 c = registers-refused _ _ (passed (c .before .before)) (λ e. omega arith) (c .refused2 .ensures)
-
-abbrev cleared : tie.After-obey-all-arg → tie.After-clear
-cleared c = c .before .before .before
 
 obey-all-requires : tie.Need-obey-all-requires
 obey-all-requires c κs = let e = cleared c in (omega (arith, e .clear .kept .0), passed (e .before .before .before))

@@ -20,7 +20,9 @@ use types.Run.{alloc1, alloc0, params1, pass1, pass0, free1, free0}
 use denote.Builtin.{usize}
 use denote.Triple.Entry.{alive}
 use Rattle.sheet_format.specs.declared.Reader.{Reader}
-use Rattle.sheet_format.proofs.Held.{local, Walk, begins, ends, row, of-number, of-reader, moves}
+use Rattle.sheet_format.proofs.Contracts.{local, ends}
+use Rattle.sheet_format.proofs.Walks.{Walk, begins}
+use Rattle.sheet_format.proofs.Held.{row, of-number, of-reader, moves}
 use Rattle.sheet_format.proofs.Reader.Laws as T′
 use Rattle.sheet_format.proofs.moved.Key.{name as #moved}
 use Rattle.sheet_format.proofs.moved as moved

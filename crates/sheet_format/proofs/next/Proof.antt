@@ -24,7 +24,9 @@ use denote.Triple.Statement.{Contract, Triple}
 use denote.Triple.Table.{cited}
 use Rattle.sheet_format.specs.Format.{decode}
 use Rattle.sheet_format.specs.declared.Reader.{Reader}
-use Rattle.sheet_format.proofs.Held.{local, ContractOf, Walk, begins, ends, calls, frames, row, of-none, of-reader, fields-own, taken, decoded-typed}
+use Rattle.sheet_format.proofs.Contracts.{local, ContractOf, ends, calls}
+use Rattle.sheet_format.proofs.Walks.{Walk, begins, frames}
+use Rattle.sheet_format.proofs.Held.{row, of-none, of-reader, fields-own, taken, decoded-typed}
 use Rattle.sheet_format.proofs.Reader.Laws as T′
 use Rattle.sheet_format.proofs.decoder.decode as decodes
 use Rattle.sheet_format.proofs.decoder.decode.Symbol as decode-def

@@ -22,7 +22,9 @@ use denote.Triple.Entry.{alive}
 use denote.Triple.Statement.{Contract, Triple}
 use denote.Triple.Table.{cited}
 use Rattle.sheet_format.specs.Format.{decode}
-use Rattle.sheet_format.proofs.Held.{local, ContractOf, Walk, begins, ends, calls, frames, of-fields, fields-own, reader-typed, decoded-typed}
+use Rattle.sheet_format.proofs.Contracts.{local, ContractOf, ends, calls}
+use Rattle.sheet_format.proofs.Walks.{Walk, begins, frames}
+use Rattle.sheet_format.proofs.Held.{of-fields, fields-own, reader-typed, decoded-typed}
 use Rattle.sheet_format.proofs.reader_at as reader-at
 use Rattle.sheet_format.proofs.reader_at.Symbol as reader-at-def
 use Rattle.sheet_format.proofs.reader_at.Symbol.{name as #reader-at}

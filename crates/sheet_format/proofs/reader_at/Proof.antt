@@ -14,7 +14,9 @@ use types.Part.{agg}
 use types.Run.{look, init, forget, stop, from, and-then, no-more, assigns, returns, enter, alloc1, alloc0, params1, pass1, pass0, free1, free0}
 use denote.Triple.Entry.{alive}
 use Rattle.sheet_format.specs.declared.Reader.{Reader}
-use Rattle.sheet_format.proofs.Held.{local, Walk, begins, ends, row, of-fields, fields-own, makes}
+use Rattle.sheet_format.proofs.Contracts.{local, ends}
+use Rattle.sheet_format.proofs.Walks.{Walk, begins}
+use Rattle.sheet_format.proofs.Held.{row, of-fields, fields-own, makes}
 use Rattle.sheet_format.proofs.Reader.Laws as T′
 use Rattle.sheet_format.proofs.reader_at.Key.{name as #reader-at}
 use Rattle.sheet_format.proofs.reader_at as reader-at

@@ -7,10 +7,18 @@ use borrow.Rule.Slice.PartMut.{same-len-mid}
 use Rattle.sheet_vectors.proofs.line.Statement.{statement}
 use Rattle.sheet_vectors.proofs.line.Tie as tie
 
+-- ---- places: where the size is found, and where the bytes are read
+
+abbrev size : tie.After-read-full → tie.After-size
+size c = c .before .before .before .before
+
+abbrev bytes : tie.After-bytes3 → tie.After-read-full
+bytes c = c .before .before .before
+
 part-print-run-end : tie.Need-part-print-run-end
 part-print-run-end c =
-    let read = c .before .before .before .read-full in
-    let n = c .before .before .before .before .before .before .before .size .given .0 .0 in
+    let read = bytes c .read-full in
+    let n = size (bytes c) .size .given .0 .0 in
     omega (arith, same-len-mid 0 (n - 0) (replicate 4097 0) (read .last .1 .0) (read .kept .1 .0))
 
 pub line-spec : {M : Type 1} → statement M

@@ -23,17 +23,27 @@ Inv-loop d₀ h g i₀ i-end d i = (i ≤ i-end) × (i-end ≡ length h) × Writ
 abbrev μ-loop : tie.MeasureT-loop
 μ-loop d₀ h g i₀ i-end d i = i-end - i
 
+-- ---- places: where the three slices are known, the beginning, and both from the loop's head
+
+abbrev known : tie.At-loop Inv-loop μ-loop → tie.After-shared-slice-known2 Inv-loop μ-loop
+known c = c .before .before .before
+
+abbrev first : tie.After-shared-slice-known2 Inv-loop μ-loop → tie.Start Inv-loop μ-loop
+first c = c .before .before .before
+
 abbrev start : tie.At-loop Inv-loop μ-loop → tie.Start Inv-loop μ-loop
-start c = c .before .before .before .before .before .before
+start c = first (known c)
+
+-- ---- the needs
 
 returns : tie.Need-returns Inv-loop μ-loop
 unfolding sumInto
-returns c = let u = c .before .before .before .before .args in
+returns c = let u = first (c .before) .args in
     rw (same-no {x = length (u .d .now)} {a = length (u .h .now)} (λ e. omega arith)) refl
 
 returns-2 : tie.Need-returns-2 Inv-loop μ-loop
 unfolding sumInto
-returns-2 c = let u = c .before .before .before .before .before .args in
+returns-2 c = let u = first (c .before .before) .args in
     rw (same-no {x = length (u .h .now)} {a = length (u .g .now)} (λ e. omega arith), and-false) refl
 
 -- one word more

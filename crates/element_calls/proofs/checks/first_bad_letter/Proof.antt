@@ -19,6 +19,10 @@ Inv-loop word m n i₀ i = From (λ i. let letter = getD word i 0 in same letter
 abbrev μ-loop : tie.MeasureT-loop
 μ-loop word m n i₀ i = n - i
 
+-- the loop's head, from past the test for 0
+abbrev head : tie.Else1 Inv-loop μ-loop → tie.At-loop Inv-loop μ-loop
+head c = c .before .before .before
+
 -- a letter by the tests of the code
 zero-bad : (m x : ℕ) → x ≡ 0 → (same x 0 || less m x) ≡ true
 zero-bad m x e = rw (same-yes e) refl
@@ -35,7 +39,7 @@ loop-holds : tie.Need-loop-holds Inv-loop μ-loop
 loop-holds c = first-start _ _
 
 cast-if2 : tie.Need-cast-if2 Inv-loop μ-loop
-cast-if2 c = omega (arith, c .shared-slice-known2 .given (c .before .before .before .before .loop .i))
+cast-if2 c = omega (arith, c .shared-slice-known2 .given (head (c .before) .loop .i))
 
 returns : tie.Need-returns Inv-loop μ-loop
 unfolding firstBadLetter
@@ -44,7 +48,7 @@ returns c = let at = c .before .before .before in let m = at .before .args .m in
     first-here _ (omega arith) (at .loop .inv) bad
 
 loop-again : tie.Need-loop-again Inv-loop μ-loop
-loop-again c = first-next _ (omega arith) (c .before .before .before .before .before .loop .inv) (within _ _ (c .before .before .if1 .left) (c .if2 .left))
+loop-again c = let positive = c .before .before in first-next _ (omega arith) (head positive .loop .inv) (within _ _ (positive .if1 .left) (c .if2 .left))
 
 returns-2 : tie.Need-returns-2 Inv-loop μ-loop
 unfolding firstBadLetter

@@ -7,21 +7,25 @@ use Rattle.machine.proofs.Taken.{act-taken}
 use Rattle.machine.proofs.registers.letter.Statement.{statement}
 use Rattle.machine.proofs.registers.letter.Tie as tie
 
+-- where x is known, from the call
+abbrev known : tie.After-act-word → tie.After-slice-known
+known c = c .before .before .before
+
 add-act-word : tie.Need-add-act-word
-add-act-word c = let start = c .before .before in omega (arith, inside (start .pre .0) (start .pre .1))
+add-act-word c = let start = c .before .before in omega (arith, inside (start .pre .registers) (start .pre .one))
 
 part-act-word-end : tie.Need-part-act-word-end
-part-act-word-end c = let start = c .before .before in inside (start .pre .0) (start .pre .1)
+part-act-word-end c = let start = c .before .before in inside (start .pre .registers) (start .pre .one)
 
 returns : tie.Need-returns
 returns c =
-    let call = c .before .before .act-word in
-    let known = c .before .before .before .before .before in
-    let start = known .before in
-    let z = start .pre .0 in
-    let r = start .pre .1 in
+    let called = c .before .before in
+    let call = called .act-word in
+    let start = known called .before in
+    let z = start .pre .registers in
+    let r = start .pre .one in
     let done = act-taken (z .low) (start .args .q) (start .args .i ∷ []) (start .fits .q .fits)
-    (record { low = start .pre .2; high = start .pre .3 }, tt) (omega arith) (lent z r (known .slice-known .given)) (call .ensures) in
+    (record { low = start .pre .least; high = start .pre .most }, tt) (omega arith) (lent z r (known called .slice-known .given)) (call .ensures) in
     (back z r (call .kept .1 .1 .1 .0) (done .0), omega (arith, done .1))
 
 pub letter-spec : {M : Type 1} → statement M

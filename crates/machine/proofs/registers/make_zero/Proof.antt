@@ -8,6 +8,10 @@ use Rattle.machine.proofs.Put.{inside, lent-size, back}
 use Rattle.machine.proofs.registers.make_zero.Statement.{statement}
 use Rattle.machine.proofs.registers.make_zero.Tie as tie
 
+-- the beginning, from the call
+abbrev start : tie.After-clear → tie.Start
+start c = c .before .before .before
+
 add-clear : tie.Need-add-clear
 add-clear c = omega (arith, inside (c .before .pre .0) (c .before .pre .1))
 
@@ -17,11 +21,10 @@ part-clear-end c = omega (arith, inside (c .before .pre .0) (c .before .pre .1))
 returns : tie.Need-returns
 unfolding zeros
 returns c =
-    let call = c .before .before .clear in
-    let start = c .before .before .before .before .before in
-    let z = start .pre .0 in
-    let r = start .pre .1 in
-    back z r (call .kept .0) (call .ensures ∙ ap (λ n. replicate n 0) (lent-size z r))
+    let called = c .before .before in
+    let z = start called .pre .0 in
+    let r = start called .pre .1 in
+    back z r (called .clear .kept .0) (called .clear .ensures ∙ ap (λ n. replicate n 0) (lent-size z r))
 
 pub make-zero-spec : {M : Type 1} → statement M
 make-zero-spec =

@@ -6,13 +6,16 @@ use Rattle.machine.proofs.Taken.{scale-taken}
 use Rattle.machine.proofs.registers.multiple.Statement.{statement}
 use Rattle.machine.proofs.registers.multiple.Tie as tie
 
--- ---- places: where x is known, and the load
+-- ---- places: where x is known, the load, and where the register is lent
 
 abbrev known : tie.After-load → tie.After-slice-known
 known c = c .before .before .before
 
 abbrev load : tie.After-scale-arg → tie.After-load
 load c = c .before .before .before
+
+abbrev place : tie.After-scale → tie.After-scale-arg
+place c = c .before .before
 
 -- ---- the needs
 
@@ -35,7 +38,7 @@ part-scale-end-2 c = let start = known (load c) .before in inside (start .pre .0
 returns : tie.Need-returns
 returns c =
     let call = c .before .before .scale in
-    let l = load (c .before .before .before .before) in
+    let l = load (place (c .before .before)) in
     let start = known l .before in
     let z = start .pre .0 in
     let r = start .pre .1 in

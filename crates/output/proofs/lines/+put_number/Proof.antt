@@ -3,7 +3,7 @@ use Prim.Native.Nat.{ℕ, _<_}
 use native.Mathlib.Omega.{arith}
 use borrow.Fn.Kinds.{In}
 use borrow.Fn.PlainCycle.{Measures, is, falls, and}
-use Rattle.output.proofs.Overwrite.{written-more}
+use Rattle.output.proofs.Overwritten.{overwritten-more}
 use Rattle.output.proofs.Decimal.{decimal-digit, decimal-last, length-digit, length-last}
 use Rattle.output.proofs.lines.put_number.Reads as put-number
 use Rattle.output.proofs.lines.put_number.Kinds as put-number-kinds
@@ -24,13 +24,27 @@ below t = and 1 put-number-kinds.ps (falls 1 put-number-kinds.ps _<_ μ t) put-n
 abbrev claims : ℕ → put-number-lts.Claims
 claims t = (put-byte-reads.Asked, put-byte-reads.Learnt, below t, put-number.Post)
 
+-- ---- places: the beginning, from a digit that is written alone and from the digits but the last; these, from the last
+
+abbrev one : (t : ℕ) → put-number-lts.After-put-byte (claims t) (at-measure t) put-number.Post
+    → put-number-lts.Start (claims t) (at-measure t) put-number.Post
+one t c = c .before .before .before .before
+
+abbrev start : (t : ℕ) → put-number-lts.After-put-number (claims t) (at-measure t) put-number.Post
+    → put-number-lts.Start (claims t) (at-measure t) put-number.Post
+start t c = c .before .before .before .before
+
+abbrev front : (t : ℕ) → put-number-lts.After-put-byte2 (claims t) (at-measure t) put-number.Post
+    → put-number-lts.After-put-number (claims t) (at-measure t) put-number.Post
+front t c = c .before .before .before .before
+
 -- ---- one digit
 
 put-byte-requires : (t : ℕ) → put-number-lts.Need-put-byte-requires (claims t) (at-measure t) put-number.Post
 put-byte-requires t c κs = let n = c .before .before .before .args .n in omega (arith, length-digit n (omega arith))
 
 returns : (t : ℕ) → put-number-lts.Need-returns (claims t) (at-measure t) put-number.Post
-returns t c = let after = c .before .before in rw (decimal-digit (after .before .before .before .before .args .n) (omega arith)) (after .put-byte .ensures)
+returns t c = let after = c .before .before in rw (decimal-digit (one t after .args .n) (omega arith)) (after .put-byte .ensures)
 
 -- ---- more digits
 
@@ -39,15 +53,15 @@ put-number-requires t c κs = let s0 = c .before .before .before in
     (omega (arith, s0 .pre .0), omega (arith, s0 .pre .1, length-last (s0 .args .n) (omega arith)))
 
 put-byte-requires-2 : (t : ℕ) → put-number-lts.Need-put-byte-requires-2 (claims t) (at-measure t) put-number.Post
-put-byte-requires-2 t c κs = let s0 = c .before .before .before .before .before .before .before in
+put-byte-requires-2 t c κs = let s0 = start t (c .before .before .before) in
     omega (arith, s0 .pre .1, length-last (s0 .args .n) (omega arith))
 
 returns-2 : (t : ℕ) → put-number-lts.Need-returns-2 (claims t) (at-measure t) put-number.Post
 returns-2 t c =
     let last = c .before .before in
-    let front = last .before .before .before .before in
-    let s0 = front .before .before .before .before in
-    rw (decimal-last (s0 .args .n) (omega arith)) (written-more (front .put-number .ensures) (last .put-byte2 .ensures) (omega (arith, s0 .pre .1)))
+    let first = front t last in
+    let s0 = start t first in
+    rw (decimal-last (s0 .args .n) (omega arith)) (overwritten-more (first .put-number .ensures) (last .put-byte2 .ensures) (omega (arith, s0 .pre .1)))
 
 pub +put-number-spec : {M : Type 1} → statement M
 +put-number-spec =

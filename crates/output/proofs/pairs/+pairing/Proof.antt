@@ -33,6 +33,11 @@ Inv-loop a b m q size sum₀ k₀ sum k = Summed q m size a b sum k
 abbrev μ-loop : pairing-lts.MeasureT-loop
 μ-loop a b m q size sum₀ k₀ sum k = k
 
+-- the beginning, from the loop's head
+abbrev start : (t : ℕ) → pairing-lts.At-loop (claims t) (pairing-at t) pairing.Post Inv-loop μ-loop
+    → pairing-lts.Start (claims t) (pairing-at t) pairing.Post Inv-loop μ-loop
+start t c = c .before .before .before .before
+
 shared-slice-read-mul : (t : ℕ) → pairing-lts.Need-shared-slice-read-mul (claims t) (pairing-at t) pairing.Post Inv-loop μ-loop
 shared-slice-read-mul t c = let then = c .before in let s0 = then .before .before .before in
     omega (arith, s0 .pre .1 .left, one-word (then .if1 .taken))
@@ -51,12 +56,12 @@ loop-holds t c = let known = c .before in let s0 = known .before .before in
 
 -- the block that is lent ends within a
 within : (t : ℕ) (c : pairing-lts.In-loop (claims t) (pairing-at t) pairing.Post Inv-loop μ-loop) →
-    let u = c .before .before .before .before .before .args in let size = blockSize (u .m) (u .a .now) in
+    let u = start t (c .before) .args in let size = blockSize (u .m) (u .a .now) in
     (c .before .loop .k - 1) * size + size ≤ length (u .a .now)
-within t c = block-fits (c .before .before .before .before .before .pre .1) (omega arith) (c .before .loop .k - 1) (omega arith)
+within t c = block-fits (start t (c .before) .pre .1) (omega arith) (c .before .loop .k - 1) (omega arith)
 
 pairing-requires : (t : ℕ) → pairing-lts.Need-pairing-requires (claims t) (pairing-at t) pairing.Post Inv-loop μ-loop
-pairing-requires t c κs = let test = c .before .before in let s0 = test .before .before .before .before .before in
+pairing-requires t c κs = let test = c .before .before in let s0 = start t (test .before) in
     (omega (arith, s0 .pre .0), part-pre (s0 .pre .1) (omega arith) (test .before .loop .k - 1) (omega arith))
 
 loop-again : (t : ℕ) → pairing-lts.Need-loop-again (claims t) (pairing-at t) pairing.Post Inv-loop μ-loop

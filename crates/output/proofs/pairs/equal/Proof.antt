@@ -13,14 +13,18 @@ Inv-loop a b i₀ i-end i = (i ≤ i-end) × (i-end ≡ length a) × Alike a b i
 abbrev μ-loop : tie.MeasureT-loop
 μ-loop a b i₀ i-end i = i-end - i
 
+-- the loop's head, from where both slices are known
+abbrev head : tie.After-shared-slice-known2 Inv-loop μ-loop → tie.At-loop Inv-loop μ-loop
+head c = c .before .before .before
+
 loop-holds : tie.Need-loop-holds Inv-loop μ-loop
 loop-holds c = (omega arith, refl, record { size = c .pre; rest = refl })
 
 returns : tie.Need-returns Inv-loop μ-loop
-returns c = alike-not (c .before .before .before .before .loop .inv .2) (omega arith) (omega arith)
+returns c = alike-not (head (c .before) .loop .inv .2) (omega arith) (omega arith)
 
 loop-again : tie.Need-loop-again Inv-loop μ-loop
-loop-again c = (omega arith, refl, alike-more (c .before .before .before .before .loop .inv .2) (omega arith) (omega arith))
+loop-again c = (omega arith, refl, alike-more (head (c .before) .loop .inv .2) (omega arith) (omega arith))
 
 returns-2 : tie.Need-returns-2 Inv-loop μ-loop
 returns-2 c = alike-all (c .before .loop .inv .2) (omega arith)

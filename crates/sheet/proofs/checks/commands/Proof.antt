@@ -9,7 +9,7 @@ use Rattle.refusals.specs.declared.Verdict.the-variants.{Refused}
 use Rattle.sheet_format.specs.Format.{decode, rank}
 use Rattle.sheet.specs.Check.{placed, firstRefusal}
 use Rattle.sheet.specs.Steps.{judged}
-use Rattle.sheet.proofs.CheckFrom.{checkFrom, follow, from-start, from-end, step, on-within}
+use Rattle.sheet.proofs.CheckFrom.{checkFrom, follow, from-start, from-end, check-step, on-within}
 use Rattle.sheet.proofs.checks.commands.Statement.{statement}
 use Rattle.sheet.proofs.checks.commands.Tie as tie
 
@@ -19,25 +19,40 @@ Inv-loop sheet m n at₀ at = (at ≤ length sheet) × (checkFrom sheet at ≡ f
 abbrev μ-loop : tie.MeasureT-loop
 μ-loop sheet m n at₀ at = length sheet - at
 
+-- ---- places: from a judgement to the loop's head, and from there to the beginning
+
+abbrev start : tie.At-loop Inv-loop μ-loop → tie.Start Inv-loop μ-loop
+start c = c .before .before
+
+abbrev head : tie.After-judge Inv-loop μ-loop → tie.At-loop Inv-loop μ-loop
+head c = c .before .before .before
+
+abbrev on : tie.After-known-told Inv-loop μ-loop → tie.After-judge Inv-loop μ-loop
+on c = c .before .before .before
+
+abbrev done : tie.After-known-told2 Inv-loop μ-loop → tie.After-judge Inv-loop μ-loop
+done c = c .before .before .before
+
+-- ---- the needs
+
 loop-holds : tie.Need-loop-holds Inv-loop μ-loop
 loop-holds c = (omega arith, from-start _)
 
-told : (c : tie.After-judge Inv-loop μ-loop) → let u = c .before .before .before .before .before .args in
-    c .judge .result ≡ judged (length (u .sheet .now)) (rank (u .sheet .now)) (c .before .before .before .loop .at)
-    (decode (u .sheet .now) (c .before .before .before .loop .at))
-told c = let at = c .before .before .before in
-    c .judge .ensures ∙ (λ j. judged (length (at .before .before .args .sheet .now)) (at .before .before .pre j) (at .loop .at) (c .before .read .ensures j))
+told : (c : tie.After-judge Inv-loop μ-loop) → let s = start (head c) .args .sheet .now in let at = head c .loop .at in
+    c .judge .result ≡ judged (length s) (rank s) at (decode s at)
+told c = let u = start (head c) in
+    c .judge .ensures ∙ (λ j. judged (length (u .args .sheet .now)) (u .pre j) (head c .loop .at) (c .before .read .ensures j))
 
 loop-less : tie.Need-loop-less Inv-loop μ-loop
-loop-less c = let w = on-within _ _ _ _ (sym (told (c .before .before .before)) ∙ c .before .judged .given .1) in omega arith
+loop-less c = let w = on-within _ _ _ _ (sym (told (on c)) ∙ c .before .judged .given .1) in omega arith
 
 loop-again : tie.Need-loop-again Inv-loop μ-loop
-loop-again c = let at = c .before .before .before .before .before .before in let next = sym (told (c .before .before .before)) ∙ c .before .judged .given .1 in
-    (on-within _ _ _ _ next .1, sym (step _ (at .loop .at) ∙ ap (follow _) next) ∙ at .loop .inv .1)
+loop-again c = let at = head (on c) in let next = sym (told (on c)) ∙ c .before .judged .given .1 in
+    (on-within _ _ _ _ next .1, sym (check-step _ (at .loop .at) ∙ ap (follow _) next) ∙ at .loop .inv .1)
 
 returns : tie.Need-returns Inv-loop μ-loop
-returns c = let at = c .before .before .before .before .before .before in let done = sym (told (c .before .before .before)) ∙ c .before .judged2 .given .1 in
-    sym (step _ (at .loop .at) ∙ ap (follow _) done) ∙ at .loop .inv .1
+returns c = let at = head (done c) in let verdict = sym (told (done c)) ∙ c .before .judged2 .given .1 in
+    sym (check-step _ (at .loop .at) ∙ ap (follow _) verdict) ∙ at .loop .inv .1
 
 returns-2 : tie.Need-returns-2 Inv-loop μ-loop
 returns-2 c = ap (λ n. Refused (Ending n)) (omega arith) ∙ sym (from-end _ _ (c .loop-test .left)) ∙ c .before .loop .inv .1

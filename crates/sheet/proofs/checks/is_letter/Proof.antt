@@ -3,12 +3,12 @@ use mathlib.Core.Path.{ap, _∙_}
 use mathlib.Core.Bool.{not}
 use Rattle.lists.specs.Lists.{same}
 use Rattle.lists.proofs.Test.{same-yes, same-no}
-use Rattle.sheet.proofs.Tests.{or-on, or-off, at-most}
+use Rattle.sheet.proofs.Tests.{or-on, or-off, not-less}
 use Rattle.sheet.proofs.checks.is_letter.Statement.{statement}
 use Rattle.sheet.proofs.checks.is_letter.Tie as tie
 
 returns : tie.Need-returns
-returns c = at-most _ _ ∙ ap not (or-off _ (same-no (c .if1 .taken)))
+returns c = not-less _ _ ∙ ap not (or-off _ (same-no (c .if1 .taken)))
 
 returns-2 : tie.Need-returns-2
 unfolding same

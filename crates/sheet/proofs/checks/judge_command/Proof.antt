@@ -10,14 +10,29 @@ use Rattle.sheet.specs.Steps.{judgedCommand}
 use Rattle.sheet.proofs.checks.judge_command.Statement.{statement}
 use Rattle.sheet.proofs.checks.judge_command.Tie as tie
 
-ordered : (c : tie.Else1) → inOrder (c .before .before .args .at) (c .before .before .args .command) ≡ true
+-- ---- places: past the test of the order, past that of the range, past that of the end
+
+abbrev start : tie.Else1 → tie.Start
+start c = c .before .before
+
+abbrev order : tie.Else2 → tie.Else1
+order c = c .before .before
+
+abbrev range : tie.Else3 → tie.Else2
+range c = c .before .before
+
+-- ---- what the tests say
+
+ordered : (c : tie.Else1) → inOrder (start c .args .at) (start c .args .command) ≡ true
 ordered c = sym (c .before .in-order .ensures) ∙ not-false _ (c .if1 .left)
 
-ranged : (c : tie.Else2) → inRange (c .before .before .before .before .args .m) (c .before .before .before .before .args .command) ≡ true
+ranged : (c : tie.Else2) → let u = start (order c) .args in inRange (u .m) (u .command) ≡ true
 ranged c = sym (c .before .in-range .ensures) ∙ not-false _ (c .if2 .left)
 
-ends : (c : tie.Else3) → isEnd (c .before .before .before .before .before .before .args .command) ≡ true
+ends : (c : tie.Else3) → isEnd (start (order (range c)) .args .command) ≡ true
 ends c = sym (c .before .is-end .ensures) ∙ not-false _ (c .if3 .left)
+
+-- ---- the returns
 
 returns : tie.Need-returns
 unfolding judgedCommand
@@ -29,17 +44,17 @@ returns-2 c = rw (ordered (c .before .before), sym (c .before .in-range .ensures
 
 returns-3 : tie.Need-returns-3
 unfolding judgedCommand
-returns-3 c = rw (ordered (c .before .before .before .before), ranged (c .before .before), sym (c .before .is-end .ensures) ∙ not-true _ (c .if3 .taken)) refl
+returns-3 c = let r = c .before .before in rw (ordered (order r), ranged r, sym (c .before .is-end .ensures) ∙ not-true _ (c .if3 .taken)) refl
 
 returns-4 : tie.Need-returns-4
 unfolding judgedCommand
-returns-4 c = let e = c .before in let u = e .before .before .before .before .before .before .args in
-    rw (ordered (e .before .before .before .before), ranged (e .before .before), ends e, less-yes {x = u .after} {a = u .n} (omega arith)) refl
+returns-4 c = let e = c .before in let r = range e in let u = start (order r) .args in
+    rw (ordered (order r), ranged r, ends e, less-yes {x = u .after} {a = u .n} (omega arith)) refl
 
 returns-5 : tie.Need-returns-5
 unfolding judgedCommand
-returns-5 c = let e = c .before in let u = e .before .before .before .before .before .before .args in
-    rw (ordered (e .before .before .before .before), ranged (e .before .before), ends e, less-no {x = u .after} {a = u .n} (omega arith)) refl
+returns-5 c = let e = c .before in let r = range e in let u = start (order r) .args in
+    rw (ordered (order r), ranged r, ends e, less-no {x = u .after} {a = u .n} (omega arith)) refl
 
 pub judge-command-spec : {M : Type 1} → statement M
 judge-command-spec =

@@ -10,6 +10,10 @@ use Rattle.sheet.proofs.Tests.{and-on, and-off}
 use Rattle.sheet.proofs.checks.operands_in_range.Statement.{statement}
 use Rattle.sheet.proofs.checks.operands_in_range.Tie as tie
 
+-- where the register of a set is found, and the beginning
+abbrev start : tie.After-command3 → tie.Start
+start c = c .before .before
+
 end : tie.Need-returns
 unfolding operandsInRange
 end c = rw (c .enum-told .given .1) refl
@@ -24,9 +28,9 @@ unit c = rw (c .before .command2 .given .1) refl
 
 set : tie.Need-returns-4
 unfolding operandsInRange isRegister less
-set c = let start = c .before .before .before .before .before in
-    rw (c .before .before .before .command3 .given .1)
-    (ap (less _) (c .size .ensures ∙ size-is (start .args .m) (omega arith)) ∙ and-on _ (less-yes (c .before .if1 .taken)))
+set c = let k = c .before .before .before in
+    rw (k .command3 .given .1)
+    (ap (less _) (c .size .ensures ∙ size-is (start k .args .m) (omega arith)) ∙ and-on _ (less-yes (c .before .if1 .taken)))
 
 set-not : tie.Need-returns-5
 unfolding operandsInRange isRegister less

@@ -7,9 +7,13 @@ use Rattle.sheet_format.proofs.Codes.{other}
 use Rattle.sheet_format.proofs.decoder.command.Statement.{statement}
 use Rattle.sheet_format.proofs.decoder.command.Tie as tie
 
+-- the beginning, from where the three bytes are read
+abbrev start : tie.After-byte3 → tie.Start
+start c = c .before .before .before .before
+
 last : tie.Need-returns-11
 unfolding command
-last c = other _ _ _ _ _ _ _ _ _ _ _ (c .before .before .before .before .before .args .code) (c .match .rest)
+last c = other _ _ _ _ _ _ _ _ _ _ _ (start (c .before) .args .code) (c .match .rest)
 
 pub command-spec : {M : Type 1} → statement M
 unfolding command same

@@ -15,6 +15,16 @@ use Rattle.sheet_format.specs.declared.Decoded.the-variants.{Found, Shor
 use Rattle.sheet_format.proofs.decoder.decode.Statement.{statement}
 use Rattle.sheet_format.proofs.decoder.decode.Tie as tie
 
+-- ---- places: from where a width is known to where the code is, and to the beginning
+
+abbrev start : tie.After-known → tie.Start
+start c = c .before .before .before .before
+
+abbrev code : tie.After-width → tie.After-known
+code c = c .before .before
+
+-- ---- the returns
+
 nothing : tie.Need-returns
 unfolding decode
 nothing c = rw (less-no (c .if1 .taken))
@@ -31,7 +41,7 @@ stands s at w b l e n d = rw (less-yes l, ← e, not-false b n, ← d)
 
 short : tie.Need-returns-3
 unfolding byte
-short c = let w = c .before in let k = w .before .before in let a = k .before .before .before .before .args in
+short c = let w = c .before in let k = code w in let a = start k .args in
     rw (
       stands (a .sheet .now) (a .at) (w .width .result) (k .known .result) (omega arith) (k .known .ensures) (w .before .if2 .left) (w .width .ensures),
       less-yes {x = length (a .sheet .now)} {a = a .at + 1 + w .width .result} (omega arith),
@@ -39,7 +49,7 @@ short c = let w = c .before in let k = w .before .before in let a = k .before .b
 
 found : tie.Need-returns-4
 unfolding byte
-found c = let w = c .before .before .before in let k = w .before .before in let a = k .before .before .before .before .args in
+found c = let w = c .before .before .before in let k = code w in let a = start k .args in
     let s = a .sheet .now in let after = a .at + 1 in
     let operands : take (length s - after) (drop after s) ≡ drop after s = take-all (length s - after) (drop after s) (omega (arith, length-drop after s)) in
     rw (
