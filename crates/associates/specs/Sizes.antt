@@ -1,10 +1,9 @@
 -- The sizes of the slices of `associates`, for which no product is refused.
 use mathlib.Core.Path.{_≡_}
 use mathlib.Core.List.{List}
-use Prim.Native.Nat.{ℕ, suc, _≤_}
+use Prim.Native.Nat.{ℕ, suc, _+_, _*_, _≤_}
 use lib.ListN.{length}
 use Rattle.lists.specs.Numbers.{factorial}
-use Rattle.ranks.specs.Ranks.{needed}
 
 pub record Sizes (m : ℕ) (h g k part left right scratch : List ℕ) : Type 0 where
   pub rank : m ≤ 6
@@ -14,4 +13,4 @@ pub record Sizes (m : ℕ) (h g k part left right scratch : List ℕ) : Type 0 w
   pub part-size : length part ≡ factorial (suc m)
   pub left-size : length left ≡ factorial (suc m)
   pub right-size : length right ≡ factorial (suc m)
-  pub room : needed m ≤ length scratch
+  pub scratch-size : (m + 6) * factorial (suc m) ≤ length scratch

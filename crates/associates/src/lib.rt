@@ -1,8 +1,8 @@
 // A use of demand 3 from outside: four products of hecke, and the law that two of the results are equal.
 
 ghost use mathlib.Core.Path.{_≡_};
-ghost use Rattle.ring.specs.Modular.{words};
-ghost use Rattle.algebra.specs.Product.{minusOne, times};
+ghost use Rattle.algebra.specs.Product.{times};
+ghost use Rattle.element_calls.specs.Coefficients.{ring, parametersOf};
 ghost use Rattle.associates.specs.Sizes.{Sizes};
 
 // (h g) k in left and h (g k) in right, by four products: equal words. `part` holds h g, and then g k.
@@ -18,8 +18,8 @@ fn associates(
     scratch: &mut [u64],
 )
     requires { ⌜ Sizes m (now h) (now g) (now k) (now part) (now left) (now right) (now scratch) ⌝ }
-    ensures { λ _. ⌜ now (left .exit) ≡ (let r = minusOne _ words q in
-        times _ words q r m m (times _ words q r m m (now (h .entry)) (now (g .entry))) (now (k .entry))) ⌝ }
+    ensures { λ _. ⌜ now (left .exit) ≡ (let p = parametersOf q in
+        times _ (ring p) (p .q) (p .r) m m (times _ (ring p) (p .q) (p .r) m m (now (h .entry)) (now (g .entry))) (now (k .entry))) ⌝ }
     ensures { λ _. ⌜ now (left .exit) ≡ now (right .exit) ⌝ }
 {
     let _first = hecke::product(m, q, h, g, part, scratch);

@@ -3,9 +3,9 @@
 ghost use mathlib.Core.Path.{_≡_};
 ghost use Rattle.lists.specs.Blocks.{block, blocks};
 ghost use Rattle.hecke.specs.Steps.{acted, joint, ActPre, LevelPre, EachPre, MiddlePre, TwoPre};
-use element_calls::Parameters;
 use crate::blocks;
 use crate::letters;
+use element_calls::Parameters;
 
 // x T_a(j,l) in the place of x, of rank m.
 pub(crate) fn act(x: &mut [u64], work: &mut [u64], m: usize, j: usize, l: usize, p: Parameters)

@@ -6,8 +6,8 @@ ghost use Rattle.lists.specs.Blocks.{block, blocks};
 ghost use Rattle.algebra.specs.Product.{act};
 ghost use Rattle.element_calls.specs.Coefficients.{ring};
 ghost use Rattle.hecke.specs.Steps.{lettered, LetterPre, EachLetterPre, LettersPre};
-use element_calls::Parameters;
 use crate::blocks;
+use element_calls::Parameters;
 
 // x T_j in the place of x, of rank m. The blocks m - j and m - j + 1 change together; on each other block T_j or T_(j-1) acts by
 // itself.

@@ -2,10 +2,10 @@
 
 ghost use mathlib.Core.Path.{_≡_};
 ghost use Rattle.hecke.specs.Steps.{multiplied, FactorsPre, TimesPre, LayerPre, LayerPost};
-use element_calls::Parameters;
 use crate::action;
 use crate::blocks;
 use crate::letters;
+use element_calls::Parameters;
 
 // h g in the place of result, for h of rank m and g of rank l. The sum of the first k summands, one for each block of g, is in
 // the first words of scratch.

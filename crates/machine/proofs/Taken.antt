@@ -13,10 +13,11 @@ use Rattle.refusals.specs.declared.Verdict.the-variants.{Accepted, Refused}
 use Rattle.refusals.specs.declared.Answer.{Answer}
 use Rattle.perms.specs.Permutation.{Word}
 use Rattle.algebra.specs.Element.{plus, scale}
-use Rattle.algebra.specs.Product.{minusOne, act, times}
+use Rattle.algebra.specs.Product.{act, times}
 use Rattle.algebra.specs.Cost.{C}
 use Rattle.ranks.specs.Ranks.{needed}
 use Rattle.ranks.proofs.Sizes.{sheet-size-small}
+use Rattle.element_calls.specs.Coefficients.{modulus, ring, parametersOf}
 use Rattle.element_calls.specs.Calls.{rankVerdict, sizeVerdict, wordVerdict, Buffers, write, sumCall, scaleCall, actWordCall, productCall}
 use Rattle.element_calls.specs.Claims.{Taken}
 use Rattle.element_calls.specs.Demand3.{Lawful}
@@ -32,12 +33,13 @@ write-taken (Refused why) old new n t e = let z : _≡_ {A = ℕ} 0 1 = cc in ab
 
 module _ {m : ℕ} (rank : m ≤ 5) where
   D : (q : ℕ) → q < 2 ^ 64 → Lawful m q
+  unfolding modulus
   D q word = demand-3 m q (omega arith) word
 
-  pub act-taken : {p h last : List ℕ} {a : Answer} (q : ℕ) (x : List ℕ) → q < 2 ^ 64 → Word m x → length x ≤ 4096 → Part m p h
-      → actWordCall m q x p ≡ record { answer = a; lent = last }
-      → (last ≡ act ℕ words q (minusOne ℕ words q) m x h) × (a .count ≡ length x * (3 * factorial (suc m) / 2))
-  unfolding actWordCall
+  pub act-taken : {lent h last : List ℕ} {a : Answer} (q : ℕ) (x : List ℕ) → q < 2 ^ 64 → Word m x → length x ≤ 4096 → Part m lent h
+      → actWordCall m q x lent ≡ record { answer = a; lent = last }
+      → (let p = parametersOf q in last ≡ act ℕ (ring p) (p .q) (p .r) m x h) × (a .count ≡ length x * (3 * factorial (suc m) / 2))
+  unfolding actWordCall modulus
   act-taken {h = h} q x word w few f e =
       write-taken (rankVerdict m then sizeVerdict m (length h) then wordVerdict m x) _ _ _
       (D q word .act-taken x h w few (f .fit)) (ap (actWordCall m q x) (sym (f .is)) ∙ e)
@@ -45,7 +47,7 @@ module _ {m : ℕ} (rank : m ≤ 5) where
   module _ (result : List ℕ) (size : length result ≡ factorial (suc m)) where
     pub scale-taken : {p h last : List ℕ} {a : Answer} (c : ℕ) → Part m p h → scaleCall m c p result ≡ record { answer = a; lent = last }
         → (last ≡ scale ℕ words c h) × (a .count ≡ factorial (suc m))
-    unfolding scaleCall
+    unfolding scaleCall modulus
     scale-taken {h = h} c f e =
         write-taken (rankVerdict m then sizeVerdict m (length h) then sizeVerdict m (length result)) _ _ _
         (D 0 (omega arith) .scale-taken c h result (f .fit) size) ((λ i. scaleCall m c (sym (f .is) i) result) ∙ e)
@@ -53,15 +55,15 @@ module _ {m : ℕ} (rank : m ≤ 5) where
     module _ {left right h g : List ℕ} (f : Part m left h) (k : Part m right g) where
       pub sum-taken : {last : List ℕ} {a : Answer} → sumCall m left right result ≡ record { answer = a; lent = last }
           → (last ≡ plus ℕ words h g) × (a .count ≡ factorial (suc m))
-      unfolding sumCall
+      unfolding sumCall modulus
       sum-taken e =
           write-taken (rankVerdict m then sizeVerdict m (length h) then sizeVerdict m (length g) then sizeVerdict m (length result)) _ _ _
           (D 0 (omega arith) .sum-taken h g result (f .fit) (k .fit) size) ((λ i. sumCall m (sym (f .is) i) (sym (k .is) i) result) ∙ e)
 
       pub product-taken : {last : Buffers} {a : Answer} (q : ℕ) (scratch : List ℕ) → q < 2 ^ 64 → 7920 ≤ length scratch
           → productCall m q left right result scratch ≡ record { answer = a; lent = last }
-          → (last .result ≡ times ℕ words q (minusOne ℕ words q) m m h g) × (a .count ≡ C m m)
-      unfolding needed
+          → (let p = parametersOf q in last .result ≡ times ℕ (ring p) (p .q) (p .r) m m h g) × (a .count ≡ C m m)
+      unfolding needed modulus
       product-taken q scratch word large e =
           let few : (m + 6) * factorial (suc m) ≤ 11 * factorial (suc m) = mul-le-mul-right (factorial (suc m)) (omega arith) in
           let t = D q word .product-taken h g result scratch (f .fit) (k .fit) size (omega (arith, few, sheet-size-small m rank)) in

@@ -15,8 +15,9 @@ use Rattle.lists.specs.Numbers.{factorial}
 use Rattle.refusals.specs.Refusals.{Report, reported, Outcome}
 use Rattle.refusals.specs.declared.Verdict.the-variants.{Accepted}
 use Rattle.algebra.specs.Element.{plus, scale, unit}
-use Rattle.algebra.specs.Product.{minusOne, act, times}
+use Rattle.algebra.specs.Product.{act, times}
 use Rattle.algebra.specs.Cost.{C}
+use Rattle.element_calls.specs.Coefficients.{ring, parametersOf}
 use Rattle.sheet_format.specs.declared.Command.{Command}
 use Rattle.sheet_format.specs.declared.Command.the-variants.{End, Begin, Unit, Set, Letter, Product, Sum, Scale, Show, Pair, Equal}
 use Rattle.sheet.specs.Check.{inRange}
@@ -29,8 +30,8 @@ obey m q End x = x
 obey m q (Begin n p) x = put 3 (zeros m) (put 2 (zeros m) (put 1 (zeros m) (put 0 (zeros m) x)))
 obey m q (Unit r) x = put r (unit ℕ words m) x
 obey m q (Set r i v) x = put r (set (element m r x) i v) x
-obey m q (Letter r i) x = put r (act ℕ words q (minusOne ℕ words q) m (i ∷ []) (element m r x)) x
-obey m q (Product d a b) x = put d (times ℕ words q (minusOne ℕ words q) m m (element m a x) (element m b x)) x
+obey m q (Letter r i) x = let p = parametersOf q in put r (act ℕ (ring p) (p .q) (p .r) m (i ∷ []) (element m r x)) x
+obey m q (Product d a b) x = let p = parametersOf q in put d (times ℕ (ring p) (p .q) (p .r) m m (element m a x) (element m b x)) x
 obey m q (Sum d a b) x = put d (plus ℕ words (element m a x) (element m b x)) x
 obey m q (Scale r v) x = put r (scale ℕ words v (element m r x)) x
 obey m q (Show r) x = x

@@ -8,8 +8,9 @@ ghost use lib.ListN.{length, take, drop, set};
 ghost use Rattle.ring.specs.Modular.{words};
 ghost use Rattle.lists.specs.Numbers.{factorial};
 ghost use Rattle.algebra.specs.Element.{plus, scale, unit};
-ghost use Rattle.algebra.specs.Product.{minusOne, act, times};
+ghost use Rattle.algebra.specs.Product.{act, times};
 ghost use Rattle.algebra.specs.Cost.{C};
+ghost use Rattle.element_calls.specs.Coefficients.{ring, parametersOf};
 ghost use Rattle.machine.specs.Registers.{element, put, zeros};
 ghost use Rattle.machine.specs.Steps.{Registers, LetterPre, BinaryPre};
 
@@ -66,7 +67,8 @@ pub(crate) fn set_coefficient(
 
 pub(crate) fn letter(x: &mut [u64], m: usize, size: usize, q: u64, r: usize, i: u8) -> u64
     requires { ⌜ LetterPre m size r i (now x) ⌝ }
-    ensures { λ n. ⌜ (now (x .exit) ≡ put r (act ℕ words q (minusOne ℕ words q) m (i ∷ []) (element m r (now (x .entry)))) (now (x .entry)))
+    ensures { λ n. ⌜ (let p = parametersOf q in
+        now (x .exit) ≡ put r (act ℕ (ring p) (p .q) (p .r) m (i ∷ []) (element m r (now (x .entry)))) (now (x .entry)))
         × (n ≡ 3 * factorial (suc m) / 2) ⌝ }
 {
     let at = 720 * r;
@@ -85,8 +87,8 @@ pub(crate) fn product(
     b: usize,
 ) -> u64
     requires { ⌜ BinaryPre m size d a b (now x) ⌝ }
-    ensures { λ n. ⌜ (now (x .exit)
-        ≡ put d (times ℕ words q (minusOne ℕ words q) m m (element m a (now (x .entry))) (element m b (now (x .entry)))) (now (x .entry)))
+    ensures { λ n. ⌜ (let p = parametersOf q in now (x .exit)
+        ≡ put d (times ℕ (ring p) (p .q) (p .r) m m (element m a (now (x .entry))) (element m b (now (x .entry)))) (now (x .entry)))
         × (n ≡ C m m) ⌝ }
 {
     let mut left = [0u64; 720];

@@ -15,6 +15,7 @@ use Rattle.algebra.specs.Product.{minusOne, letter, act, times}
 use Rattle.algebra.specs.Nested.{operations, both, free, onward, _⧺_, row, _⊞_, _⊠_, sumRow, part, level, nestedAct, nested}
 use Rattle.algebra.specs.Cost.{cLine, c, C}
 use Rattle.ranks.specs.Ranks.{size, needed, scratchSize}
+use Rattle.element_calls.specs.Coefficients.{modulus}
 use Rattle.element_calls.specs.Calls.{rankVerdict, sizeVerdict, scratchVerdict, productCall}
 use Rattle.sheet_format.specs.Format.{byte, number, width, known, command, decode, rank, parameter}
 use Rattle.sheet.specs.Check.{isEnd, inOrder, isRegister, operandsInRange, inRange, placedFrom, placed, firstRefusal, checkSheet}
@@ -29,7 +30,7 @@ pub marked : All Holds table
 unfolding modular same less range first tally product identity swap generator ofWord below len above entry towerOf cycle ofCycles
     imagesOf descent firstLetters shortestWord factorial series block blocks place join perms coefficient element plus scale sumOver basis unit minusOne letter
     act times operations both free onward _⧺_ row _⊞_ _⊠_ sumRow part level nestedAct nested cLine c C rankVerdict size sizeVerdict needed scratchSize scratchVerdict
-    productCall byte number width known command decode rank parameter isEnd inOrder isRegister operandsInRange inRange placedFrom placed firstRefusal
+    modulus productCall byte number width known command decode rank parameter isEnd inOrder isRegister operandsInRange inRange placedFrom placed firstRefusal
     checkSheet register register-element overwrite zeros obey cost obeyAll commands runSheet digits decimal pairLine line taggedPair coefficients text
     texts printed ended
 marked = (

@@ -17,10 +17,10 @@ use Rattle.lists.proofs.Test.{LessView, lt, ge, less?}
 use Rattle.lists.proofs.Overwrite.{overwrite-size}
 use Rattle.perms.specs.Permutation.{identity}
 use Rattle.algebra.specs.Element.{unit}
-use Rattle.algebra.specs.Product.{minusOne}
 use Rattle.algebra.proofs.Lists.{plus-length, scale-length}
 use Rattle.algebra.proofs.Coefficients.{basis-length}
 use Rattle.algebra.proofs.CoefficientActions.{act-length, times-length}
+use Rattle.element_calls.specs.Coefficients.{ring, parametersOf}
 use Rattle.ranks.proofs.Sizes.{sheet-size-small}
 use Rattle.sheet_format.specs.declared.Command.{Command}
 use Rattle.sheet_format.specs.declared.Command.the-variants as K
@@ -92,9 +92,9 @@ module _ (m q : ℕ) where
           putting 3 _ (omega arith) e (putting 2 _ (omega arith) e (putting 1 _ (omega arith) e (putting 0 _ (omega arith) e k)))
       go (K.Unit r) w k = putting r _ w (basis-length ℕ words m (identity m)) k
       go (K.Set r i v) w k = putting r _ (w .0) (length-set (element m r x) i v ∙ sized r (w .0) k) k
-      go (K.Letter r i) w k = putting r _ (w .0) (act-length ℕ words q (minusOne ℕ words q) m (i ∷ []) (element m r x) (sized r (w .0) k)) k
+      go (K.Letter r i) w k = putting r _ (w .0) (act-length ℕ (ring (parametersOf q)) q (parametersOf q .r) m (i ∷ []) (element m r x) (sized r (w .0) k)) k
       go (K.Product d a b) w k =
-          putting d _ (w .0) (times-length ℕ words q (minusOne ℕ words q) m m (element m a x) (element m b x) (sized a (w .1) k)) k
+          putting d _ (w .0) (times-length ℕ (ring (parametersOf q)) q (parametersOf q .r) m m (element m a x) (element m b x) (sized a (w .1) k)) k
       go (K.Sum d a b) w k = let e = sized a (w .1) k in
           putting d _ (w .0) (plus-length ℕ words (element m a x) (element m b x) (e ∙ sym (sized b (w .2) k)) ∙ e) k
       go (K.Scale r v) w k = putting r _ w (scale-length ℕ words v (element m r x) ∙ sized r w k) k

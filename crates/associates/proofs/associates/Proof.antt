@@ -2,6 +2,7 @@
 use mathlib.Core.Path.{_∙_}
 use borrow.Author.Needs.{needs}
 use Rattle.algebra.proofs.WordSlices.{slice-element}
+use Rattle.element_calls.specs.Coefficients.{modulus}
 use Rattle.associates.proofs.FourProducts.{Called, left-value, left-right}
 use Rattle.associates.proofs.associates.Statement.{statement}
 use Rattle.associates.proofs.associates.Tie as tie
@@ -29,6 +30,7 @@ same-length : tie.Need-same-length
 same-length c = third c .product3 .kept .1 .1 .1 .1 .0 ∙ first c .product .kept .1 .1 .1 .1 .0
 
 returns : tie.Need-returns
+unfolding modulus
 returns c =
     let start = factors c .before .before .before in
     let z = start .pre in

@@ -13,5 +13,5 @@ use Rattle.hecke.proofs.action.+act+each+level+middle.{statement}
 use Rattle.hecke.proofs.action.+act+each+level+middle.Tie.{close}
 
 pub +act+each+level+middle-spec : {M : Type 1} → statement M
-+act+each+level+middle-spec = 
++act+each+level+middle-spec =
     close μ-act μ-each μ-level μ-middle (λ t. act-closed t) (λ t. each-closed t) (λ t. level-closed t) (λ t. middle-closed t)
