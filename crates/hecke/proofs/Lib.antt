@@ -3,13 +3,17 @@ mod Sums
 mod Exchange
 mod Lowered
 mod Moved
--- the action of T_a(j,l) and of a word
-mod Pieces
-mod Middle
-mod Act
+mod InRow
+mod Cuts
+-- one letter, and a word
 mod LowRanks
+mod LetterCut
+mod WordAction
+-- the action of T_a(j,l)
+mod Pieces
+mod Levels
+mod Middle
 mod RankTwo
-mod Letters
 -- the product
 mod Layers
 mod Products
