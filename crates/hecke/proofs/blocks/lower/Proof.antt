@@ -1,9 +1,9 @@
 -- The loop writes the words of the multiple over the first block, from the end. Rests on Lowered.
-use mathlib.Core.Path.{_≡_, refl, sym, _∙_}
+use mathlib.Core.Path.{_∙_}
 use Prim.Native.Nat.{ℕ, _-_, _≤_}
 use native.Mathlib.Omega.{arith}
 use borrow.Author.Needs.{needs}
-use lib.ListN.{length, drop}
+use lib.ListN.{drop}
 use Rattle.ring.specs.Modular.{words}
 use Rattle.algebra.specs.Element.{scale}
 use Rattle.algebra.proofs.Lists.{scale-length}
