@@ -22,10 +22,10 @@ Inv-loop x₀ b p i₀ x i = (i ≤ b)
 abbrev μ-loop : tie.MeasureT-loop
 μ-loop x₀ b p i₀ x i = i
 
--- ---- places: the loop, from the end of a step, and the start, from the loop
+-- ---- places: the loop, from the first product, and the start, from the loop
 
-abbrev at-loop : tie.After-add Inv-loop μ-loop → tie.At-loop Inv-loop μ-loop
-at-loop c = c .before .before .before .before .before .before
+abbrev at-loop : tie.After-mul Inv-loop μ-loop → tie.At-loop Inv-loop μ-loop
+at-loop c = c .before .before .before .before
 
 abbrev start : tie.At-loop Inv-loop μ-loop → tie.Start Inv-loop μ-loop
 start c = c .before .before
@@ -36,8 +36,8 @@ loop-holds : tie.Need-loop-holds Inv-loop μ-loop
 loop-holds c = (omega arith, exchanged-none _ _ _ _ (c .before .pre))
 
 slice-write-x-2 : tie.Need-slice-write-x-2 Inv-loop μ-loop
-slice-write-x-2 c = let at = at-loop c in
-    omega (arith, length-set (at .loop .x) (at .loop .i - 1) (c .before .before .mul .result), at .loop .inv .1 .same)
+slice-write-x-2 c = let first = c .before .before in let at = at-loop first in
+    omega (arith, length-set (at .loop .x) (at .loop .i - 1) (first .mul .result), at .loop .inv .1 .same)
 
 -- word j of the second block, a sum of two words; the other half is z
 second-next : {z x₀ x : List ℕ} {i : ℕ} (b r j : ℕ)
@@ -50,7 +50,7 @@ second-next {x₀ = x₀} b r j h two n le w m e f =
     plus-next s (scale ℕ words r t) j e (exchanged-low j h n le) multiple (omega (arith, low)) (low ∙ sym (scale-length ℕ words r t ∙ high))
 
 loop-again : tie.Need-loop-again Inv-loop μ-loop
-loop-again c = let at = at-loop c in let u = start at .args in let j = at .loop .i - 1 in let h = at .loop .inv .1 in
+loop-again c = let at = at-loop (c .before .before) in let u = start at .args in let j = at .loop .i - 1 in let h = at .loop .inv .1 in
     let high = high-size (u .b) (u .x .now) (start at .pre) in
     let first = scale-next (u .p .q) (drop (u .b) (u .x .now)) j (c .before .before .mul .ensures) (exchanged-high j h (omega arith)) (omega (arith, high)) in
     let second = second-next (u .b) (u .p .r) j h (start at .pre) (omega arith) (omega arith) in
