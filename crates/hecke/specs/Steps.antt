@@ -114,7 +114,7 @@ pub record MiddlePre (m b j l : ℕ) (x w : List ℕ) : Type 0 where
   pub size : length x ≡ suc l * b
   pub work : b + b ≤ length w
 
--- ---- the product; out is the result, w the scratch
+-- ---- the product; out is the result
 
 pub record FactorsPre (m l : ℕ) (out h g : List ℕ) : Type 0 where
   pub rank : m ≤ 6
@@ -123,12 +123,12 @@ pub record FactorsPre (m l : ℕ) (out h g : List ℕ) : Type 0 where
   pub right : length g ≡ factorial (suc l)
   pub result : length out ≡ factorial (suc m)
 
-pub record TimesPre (m l : ℕ) (out w h g : List ℕ) : Type 0 where
+pub record TimesPre (m l : ℕ) (out scratch h g : List ℕ) : Type 0 where
   pub factors : FactorsPre m l out h g
-  pub scratch : l * factorial (suc m) ≤ length w
+  pub enough : l * factorial (suc m) ≤ length scratch
 
 -- l is the rank of a block of g; s and p are the numbers of words of an element and of such a block
-pub record LayerPre (m l k s p : ℕ) (out w h g : List ℕ) : Type 0 where
+pub record LayerPre (m l k s p : ℕ) (out scratch h g : List ℕ) : Type 0 where
   pub rank : m ≤ 6
   pub within : suc l ≤ m
   pub place : k ≤ suc l
@@ -137,7 +137,7 @@ pub record LayerPre (m l k s p : ℕ) (out w h g : List ℕ) : Type 0 where
   pub left : length h ≡ s
   pub right : k * p + p ≤ length g
   pub result : length out ≡ s
-  pub scratch : s + l * s ≤ length w
+  pub enough : s + l * s ≤ length scratch
 
 -- scratch is that at entry, result and scratch′ are those at exit
 pub record LayerPost (p : Parameters) (m l k s n : ℕ) (h g scratch result scratch′ : List ℕ) : Type 0 where

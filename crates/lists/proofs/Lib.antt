@@ -13,4 +13,5 @@ pub mod Overwrite
 -- loops
 pub mod Fill
 pub mod Prefix
+pub mod LentAgain
 pub mod Passed

@@ -1,5 +1,5 @@
--- The checks accept every permutation and every tower within document 01's sizes: the record `Checks`. Rests on Verdicts and perms' Image.
-use mathlib.Core.Path.{_≡_, refl, _∙_}
+-- The checks accept every permutation and every tower within document 01's sizes: the record `Checks`. Rests on Verdicts, ImageVerdicts and perms' Image.
+use mathlib.Core.Path.{_≡_, refl, sym, _∙_}
 use mathlib.Core.Bool.{Bool, false}
 use mathlib.Core.List.{List, [], _∷_}
 use Prim.Native.Nat.{ℕ, zero, suc, pred, _+_, _≤_, _<_}
@@ -16,7 +16,8 @@ use Rattle.perms.proofs.Perm.{Dist, dist-tail, perm-dist}
 use Rattle.perms.proofs.Image.{perm-image, dist-head}
 use Rattle.perm_calls.specs.Calls.{badImage, firstBadImage, firstBadEntry, imagesVerdict, entriesVerdict, towerVerdict, towersVerdict}
 use Rattle.perm_calls.specs.Claims.{Checks}
-use Rattle.perm_calls.proofs.Verdicts.{images-sized, towers-sized, images-accepted, tower-accepted, towers-accepted}
+use Rattle.perm_calls.proofs.ImageVerdicts.{images-sized, images-accepted}
+use Rattle.perm_calls.proofs.Verdicts.{towers-sized, tower-accepted, towers-accepted}
 
 -- no image of a permutation stands before itself
 count-take : (w : List ℕ) → Dist w → (i : ℕ) → i < length w → count (getD w i 0) (take i w) ≡ 0
@@ -49,12 +50,15 @@ accept-entries t c = rw (less-no {x = first bad 0 (length t)} {a = length t} (om
     bad : ℕ → Bool
     bad i = less (suc i) (getD t i 0)
 
-accept-tower : (t : List ℕ) → (length t ≤ 63) × Tower (length t) t → towerVerdict t ≡ Accepted
+pub accept-tower : (t : List ℕ) → (length t ≤ 63) × Tower (length t) t → towerVerdict t ≡ Accepted
 unfolding towerVerdict
 accept-tower t c = rw (less-no (c .0)) (accept-entries t (c .1))
 
-accept-towers : (t u : List ℕ) → (length t ≤ 63) × (length t ≡ length u) × Tower (length t) t × Tower (length u) u → towersVerdict t u ≡ Accepted
-accept-towers t u c = towers-sized t u (c .0) (omega (arith, c .0, c .1)) (c .1) ∙ rw (accept-entries t (c .2)) (accept-entries u (c .3))
+accept-towers : (t u : List ℕ) → (length t ≤ 63) × Tower (length t) t × Tower (length t) u → towersVerdict t u ≡ Accepted
+accept-towers t u c =
+    let same-size = c .2 .size in
+    towers-sized t u (c .0) (omega (arith, c .0, same-size)) (sym same-size)
+    ∙ rw (accept-entries t (c .1)) (accept-entries u (record { size = refl; within = c .2 .within }))
 
 pub checks : Checks
 checks = record {

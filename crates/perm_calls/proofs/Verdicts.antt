@@ -1,41 +1,20 @@
--- What acceptance says: a list is a permutation, or a tower, within document 01's sizes, and a buffer has its size. Rests on perms' Valid and refusals' Verdicts.
+-- What acceptance says of towers and buffers: a list is a tower within document 01's sizes, and a buffer has its size. Rests on refusals' Verdicts.
 use mathlib.Core.Path.{_≡_, refl, sym, ap, _∙_}
-use mathlib.Core.Logic.{_≢_}
 use mathlib.Core.Bool.{Bool, false, not, _||_}
 use mathlib.Core.List.{List}
-use Prim.Native.Nat.{ℕ, suc, pred, _≤_, _<_}
+use Prim.Native.Nat.{ℕ, suc, _≤_}
 use native.Mathlib.Omega.{arith}
-use lib.ListN.{length, getD, take, List·getD-eq-default}
-use Rattle.lists.specs.Lists.{same, less, bit, first, count}
-use Rattle.lists.proofs.Test.{SameView, is, isnt, LessView, lt, ge, same?, less?, same-yes, same-no, less-yes, less-no, same-false, less-false, or-first, or-next}
+use lib.ListN.{length, getD, List·getD-eq-default}
+use Rattle.lists.specs.Lists.{same, less, bit, first}
+use Rattle.lists.proofs.Test.{SameView, is, isnt, LessView, lt, ge, same?, less?, same-yes, less-no, less-false, or-first, or-next}
 use Rattle.lists.proofs.First.{passed}
 use Rattle.refusals.specs.Refusals.{_then_, unless}
-use Rattle.refusals.specs.declared.Refusal.the-variants.{Length, Image, Entry, Buffer}
+use Rattle.refusals.specs.declared.Refusal.the-variants.{Length, Entry, Buffer}
 use Rattle.refusals.specs.declared.Verdict.{Verdict}
-use Rattle.refusals.specs.declared.Verdict.the-variants.{Accepted, Refused}
+use Rattle.refusals.specs.declared.Verdict.the-variants.{Accepted}
 use Rattle.refusals.proofs.Verdicts.{accepts-first, accepts-next, accepts-unless}
-use Rattle.perms.specs.Permutation.{Perm}
 use Rattle.perms.specs.Tower.{Tower}
-use Rattle.perms.proofs.Valid.{perm-of-checked}
-use Rattle.perm_calls.specs.Calls.{badImage, firstBadImage, firstBadEntry, imagesVerdict, entriesVerdict, towerVerdict, towersVerdict, exact, room}
-
--- ---- verdicts where the sizes are right
-
-pub images-sized : (w : List ℕ) → length w ≢ 0 → length w ≤ 64 → imagesVerdict w ≡ unless (less (firstBadImage w) (length w)) (Image (firstBadImage w))
-unfolding imagesVerdict
-images-sized w a b = rw (same-no a, less-no b) refl
-
-pub images-unsized : (w : List ℕ) → (length w ≢ 0 → 64 < length w) → imagesVerdict w ≡ Refused Length
-unfolding imagesVerdict
-images-unsized w h = go (same? (length w) 0)
-  where
-    go : SameView (length w) 0 → imagesVerdict w ≡ Refused Length
-    go (is p e) = rw e refl
-    go (isnt p e) = rw (e, less-yes (h p)) refl
-
-pub towers-sized : (t u : List ℕ) → length t ≤ 63 → length u ≤ 63 → length t ≡ length u → towersVerdict t u ≡ (entriesVerdict t then entriesVerdict u)
-unfolding towersVerdict
-towers-sized t u a b e = rw (less-no a, less-no b, same-yes e) refl
+use Rattle.perm_calls.specs.Calls.{firstBadEntry, entriesVerdict, towerVerdict, towersVerdict, exact, room}
 
 -- ---- accepted buffers
 
@@ -51,7 +30,11 @@ pub room-accepted : (size n : ℕ) → room size n ≡ Accepted → n ≤ size
 unfolding room
 room-accepted size n e = less-false size n (accepts-unless (less size n) Buffer e)
 
--- ---- accepted lists
+-- ---- accepted towers
+
+pub towers-sized : (t u : List ℕ) → length t ≤ 63 → length u ≤ 63 → length t ≡ length u → towersVerdict t u ≡ (entriesVerdict t then entriesVerdict u)
+unfolding towersVerdict
+towers-sized t u a b e = rw (less-no a, less-no b, same-yes e) refl
 
 -- the entries, whatever the size
 entries-accepted : (t : List ℕ) → entriesVerdict t ≡ Accepted → Tower (length t) t
@@ -98,66 +81,11 @@ sizes-accepted t u e = (less-false 63 (length t) (or-first a b small), less-fals
     equal (is p f) = p
     equal (isnt p f) = absurd (omega (arith, ap bit (ap not (sym f) ∙ or-next (a || b) d sizes)))
 
-pub towers-accepted : (t u : List ℕ) → towersVerdict t u ≡ Accepted → (length t ≤ 63) × (length t ≡ length u) × Tower (length t) t × Tower (length u) u
+pub towers-accepted : (t u : List ℕ) → towersVerdict t u ≡ Accepted → (length t ≤ 63) × Tower (length t) t × Tower (length t) u
 unfolding towersVerdict
 towers-accepted t u e =
     let size = unless (less 63 (length t) || less 63 (length u) || not (same (length t) (length u))) Length in
     let first = accepts-first (size then entriesVerdict t) (entriesVerdict u) e in
-    let sizes = sizes-accepted t u (accepts-first size (entriesVerdict t) first) in (
-      sizes .0,
-      sizes .2,
-      entries-accepted t (accepts-next size (entriesVerdict t) first),
-      entries-accepted u (accepts-next (size then entriesVerdict t) (entriesVerdict u) e),
-    )
-
-pub good-image : (w : List ℕ) (i : ℕ) → badImage w i ≡ false → (1 ≤ getD w i 0) × (getD w i 0 ≤ length w) × (count (getD w i 0) (take i w) ≡ 0)
-unfolding badImage
-good-image w i e = (
-  omega (arith, same-false x 0 (or-first a b both)),
-  less-false (length w) x (or-next a b both),
-  omega (arith, less-false 0 (count x (take i w)) (or-next (a || b) d e)),
-)
-  where
-    x : ℕ
-    x = getD w i 0
-
-    a : Bool
-    a = same x 0
-
-    b : Bool
-    b = less (length w) x
-
-    d : Bool
-    d = less 0 (count x (take i w))
-
-    both : (a || b) ≡ false
-    both = or-first (a || b) d e
-
-pub images-accepted : (w : List ℕ) → imagesVerdict w ≡ Accepted → (1 ≤ length w) × (length w ≤ 64) × Perm (pred (length w)) w
-unfolding imagesVerdict firstBadImage
-images-accepted w e = (
-  some,
-  less-false 64 (length w) (or-next a b sizes),
-  perm-of-checked w (λ i h. good-image w i (passed (badImage w) 0 (length w) i (omega arith) (omega (arith, all)))) some,
-)
-  where
-    a : Bool
-    a = same (length w) 0
-
-    b : Bool
-    b = less 64 (length w)
-
-    bad : ℕ
-    bad = first (badImage w) 0 (length w)
-
-    rest : Verdict
-    rest = unless (less bad (length w)) (Image bad)
-
-    sizes : (a || b) ≡ false
-    sizes = accepts-unless (a || b) Length (accepts-first (unless (a || b) Length) rest e)
-
-    some : 1 ≤ length w
-    some = omega (arith, same-false (length w) 0 (or-first a b sizes))
-
-    all : length w ≤ bad
-    all = less-false bad (length w) (accepts-unless (less bad (length w)) (Image bad) (accepts-next (unless (a || b) Length) rest e))
+    let sizes = sizes-accepted t u (accepts-first size (entriesVerdict t) first) in
+    let second = entries-accepted u (accepts-next (size then entriesVerdict t) (entriesVerdict u) e) in
+    (sizes .0, entries-accepted t (accepts-next size (entriesVerdict t) first), record { size = sym (sizes .2); within = second .within })

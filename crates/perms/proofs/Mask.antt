@@ -1,15 +1,18 @@
 -- The mask of the numbers from 1 to m at which a test holds has m digits, and as many of them set as there are such numbers. Its digits one by
--- one and from the k-th on; the mask of one number more. Rests on lists' Test.
-use mathlib.Core.Path.{_≡_, refl, ap, ap₂, _∙_}
-use mathlib.Core.Logic.{_≢_}
+-- one and from the k-th on; the mask of one number more. Rests on lists' Test, Range and Tally.
+use mathlib.Core.Path.{_≡_, refl, sym, ap, ap₂, _∙_}
+use mathlib.Core.Logic.{_≢_, _↔_}
 use mathlib.Core.Bool.{Bool, true, false}
 use Prim.Native.Nat.{ℕ, zero, suc, _+_, _-_, _*_, _/_, _%_, _^_, _≤_, _<_}
 use native.Mathlib.Nat.{add-comm}
 use native.Mathlib.Omega.{arith}
 use lib.Count.{ones, ones-cat}
 use lib.Pow.{pow-add, high, low}
-use Rattle.lists.specs.Lists.{bit}
-use Rattle.lists.proofs.Test.{SameView, is, isnt, same?}
+use Rattle.lists.specs.Lists.{bit, range, tally}
+use Rattle.lists.proofs.Test.{SameView, is, isnt, same?, bit-true}
+use Rattle.lists.proofs.Range.{range-append}
+use Rattle.lists.proofs.Tally.{tally-append}
+use Rattle.perms.specs.Permutation.{Letter}
 use Rattle.perms.specs.Tower.{mask, number}
 
 pub mask-lt : (p : ℕ → Bool) (m : ℕ) → mask p m < 2 ^ m
@@ -33,6 +36,20 @@ ones-mask p (suc m) =
     ap ones (add-comm (mask p m) (bit (p (suc m)) * 2 ^ m))
     ∙ ones-cat m (bit (p (suc m))) (mask p m) (mask-lt p m)
     ∙ omega (arith, ones-bit (p (suc m)), ones-mask p m)
+
+pub number-tally : (p : ℕ → Bool) (m : ℕ) → number p m ≡ tally p (range 1 m)
+unfolding number range tally
+number-tally p zero = refl
+number-tally p (suc m) = ap (λ n. n + bit (p (suc m))) (number-tally p m) ∙ sym (ap (λ n. tally p (range 1 n)) next ∙ last)
+  where
+    next : suc m ≡ m + 1
+    next = omega arith
+
+    here : 1 + m ≡ suc m
+    here = omega arith
+
+    last : tally p (range 1 (m + 1)) ≡ tally p (range 1 m) + bit (p (suc m))
+    last = ap (tally p) (range-append 1 m 1) ∙ tally-append p (range 1 m) (range (1 + m) 1) ∙ omega (arith, ap (λ n. bit (p n)) here)
 
 -- ---- the digits
 
@@ -62,6 +79,12 @@ mask-digit p k m h =
     let f : k + 1 ≡ suc k = omega arith in
     ap (λ n. mask p n / 2 ^ k % 2) e ∙ ap (λ n. n % 2) (mask-from p k (1 + (m - suc k))) ∙ mask-lowest (λ i. p (k + i)) (m - suc k)
     ∙ ap (λ n. bit (p n)) f
+
+pub mask-set : (p : ℕ → Bool) (m i : ℕ) → Letter m i → (mask p m / 2 ^ (i - 1) % 2 ≡ 1) ↔ (p i ≡ true)
+mask-set p m i l = (λ d. bit-true (p i) (sym digit ∙ d), λ d. digit ∙ ap bit d)
+  where
+    digit : mask p m / 2 ^ (i - 1) % 2 ≡ bit (p i)
+    digit = let e : suc (i - 1) ≡ i = omega arith in mask-digit p (i - 1) m (omega arith) ∙ ap (λ n. bit (p n)) e
 
 -- ---- other tests
 

@@ -33,8 +33,8 @@ spelled-size {t} {word₀} {word} {at} {i} r s = omega (
 )
 
 -- the next word ends inside
-pub spelled-room : {t word₀ word : List ℕ} {at i : ℕ} → i < length t → total t ≤ length word₀ → Spelled t word₀ word at i → at + getD t i 0 ≤ length word
-spelled-room {t} {word₀} {word} {at} {i} h r s = omega (arith, s .letters, spelled-size r s, sum-prefix total-sums i t h, total-take t (i + 1))
+pub spelled-inside : {t word₀ word : List ℕ} {at i : ℕ} → i < length t → total t ≤ length word₀ → Spelled t word₀ word at i → at + getD t i 0 ≤ length word
+spelled-inside {t} {word₀} {word} {at} {i} h r s = omega (arith, s .letters, spelled-size r s, sum-prefix total-sums i t h, total-take t (i + 1))
 
 pub spelled-more : (t word₀ word part : List ℕ) (at i : ℕ) → i < length t → total t ≤ length word₀ → Spelled t word₀ word at i
     → part ≡ cycle (i + 1) (length (midOf at (at + getD t i 0 - at) word))
@@ -56,7 +56,7 @@ spelled-more t word₀ word part at i h r s e = record {
     begin = ap (take at) (s .holds) ∙ take-at (standard (take i t)) (drop at word₀) at long
 
     middle : part ≡ cycle (suc i) a
-    middle = e ∙ ap₂ cycle (add-one i) (mid-len at (at + a) word (spelled-room h r s) ∙ omega arith)
+    middle = e ∙ ap₂ cycle (add-one i) (mid-len at (at + a) word (spelled-inside h r s) ∙ omega arith)
 
     end : drop (at + a - at) (drop at word) ≡ drop (at + a) word₀
     end = ap (drop (at + a - at)) (ap (drop at) (s .holds) ∙ drop-at (standard (take i t)) (drop at word₀) at long)

@@ -10,7 +10,7 @@ use perm_calls::Generators;
 use perm_calls::checks;
 use refusals::Verdict;
 
-mod words;
+mod entry_loops;
 
 // The length of a tower's permutation, the sum of the entries.
 // Refused: 5 over 63 entries; 7 the first entry a_j above j.
@@ -22,7 +22,7 @@ pub fn length(tower: &[u8]) -> Counted
     if let Verdict::Refused(why) = checked {
         return Counted::Refused(why);
     }
-    Counted::Count(words::total(tower))
+    Counted::Count(entry_loops::total(tower))
 }
 
 // The standard shortest word of a tower's permutation, and the number of its letters. Bytes after them stay.
@@ -35,12 +35,12 @@ pub fn standard_word(tower: &[u8], word: &mut [u8]) -> Counted
     if let Verdict::Refused(why) = checked {
         return Counted::Refused(why);
     }
-    let letters = words::total(tower);
+    let letters = entry_loops::total(tower);
     let fits = checks::room(word.len(), letters);
     if let Verdict::Refused(why) = fits {
         return Counted::Refused(why);
     }
-    words::fill_word(tower, word);
+    entry_loops::fill_word(tower, word);
     Counted::Count(letters)
 }
 
@@ -54,7 +54,7 @@ pub fn descents(tower: &[u8]) -> Generators
     if let Verdict::Refused(why) = checked {
         return Generators::Refused(why);
     }
-    let mask = words::descent_mask(tower);
+    let mask = entry_loops::descent_mask(tower);
     let count = u64::count_ones(mask);
     Generators::Set { mask, count }
 }

@@ -1,5 +1,6 @@
 mod Arrays
 mod Scatter
-mod Room
+mod Extended
 mod Grow
+mod TwoTowers
 mod Judged

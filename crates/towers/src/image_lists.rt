@@ -7,6 +7,7 @@ ghost use lib.ListN.{length, getD, take, drop};
 ghost use Rattle.perms.specs.Permutation.{Perm, inverse, product};
 ghost use Rattle.perms.specs.Tower.{towerOf, Tower, imagesOf};
 ghost use Rattle.perms.specs.Extend.{extend};
+ghost use Rattle.towers.specs.Steps.{OneTower, TwoTowers, ListBuffers};
 
 // In the mask of the images before, the image x is at bit x - 1.
 pub(crate) fn fill_tower(images: &[u8], tower: &mut [u8])
@@ -20,7 +21,7 @@ pub(crate) fn fill_tower(images: &[u8], tower: &mut [u8])
     }
 }
 
-// The first j images make room for the image x, which is put after them.
+// Each of the first j images from x on becomes one more, and the image x is put after them.
 fn extend_at(images: &mut [u8], j: usize, x: u8)
     requires { ⌜ (j < length (now images)) × ((i : ℕ) → i < j → getD (now images) i 0 < 255) ⌝ }
     ensures { λ _. ⌜ now (images .exit) ≡ extend x (take j (now (images .entry))) ++ drop (suc j) (now (images .entry)) ⌝ }
@@ -64,8 +65,7 @@ fn compose(images: &mut [u8], next: &[u8])
 
 // The tower of the inverse, by way of the two image lists.
 fn invert(tower: &[u8], images: &mut [u8], points: &mut [u8], result: &mut [u8])
-    requires { ⌜ (length (now images) ≡ suc (length (now tower))) × (length (now points) ≡ suc (length (now tower))) × (length (now result) ≡ length (now tower))
-        × (length (now tower) ≤ 63) × Tower (length (now tower)) (now tower) ⌝ }
+    requires { ⌜ OneTower (now tower) (now result) × ListBuffers (length (now tower)) (now images) (now points) ⌝ }
     ensures { λ _. ⌜ now (result .exit) ≡ towerOf (inverse (imagesOf (now (tower .entry)))) ⌝ }
 {
     fill_images(tower, images);
@@ -74,7 +74,7 @@ fn invert(tower: &[u8], images: &mut [u8], points: &mut [u8], result: &mut [u8])
 }
 
 pub(crate) fn fill_tower_of_inverse(tower: &[u8], result: &mut [u8])
-    requires { ⌜ (length (now result) ≡ length (now tower)) × (length (now tower) ≤ 63) × Tower (length (now tower)) (now tower) ⌝ }
+    requires { ⌜ OneTower (now tower) (now result) ⌝ }
     ensures { λ _. ⌜ now (result .exit) ≡ towerOf (inverse (imagesOf (now (tower .entry)))) ⌝ }
 {
     let n = tower.len() + 1;
@@ -85,8 +85,7 @@ pub(crate) fn fill_tower_of_inverse(tower: &[u8], result: &mut [u8])
 
 // The tower of the product, by way of the two image lists.
 fn multiply(left: &[u8], right: &[u8], images: &mut [u8], seconds: &mut [u8], result: &mut [u8])
-    requires { ⌜ (length (now images) ≡ suc (length (now left))) × (length (now seconds) ≡ suc (length (now left))) × (length (now result) ≡ length (now left))
-        × (length (now left) ≤ 63) × (length (now left) ≡ length (now right)) × Tower (length (now left)) (now left) × Tower (length (now right)) (now right) ⌝ }
+    requires { ⌜ TwoTowers (now left) (now right) (now result) × ListBuffers (length (now left)) (now images) (now seconds) ⌝ }
     ensures { λ _. ⌜ now (result .exit) ≡ towerOf (product (imagesOf (now (left .entry))) (imagesOf (now (right .entry)))) ⌝ }
 {
     fill_images(left, images);
@@ -96,8 +95,7 @@ fn multiply(left: &[u8], right: &[u8], images: &mut [u8], seconds: &mut [u8], re
 }
 
 pub(crate) fn fill_tower_of_product(left: &[u8], right: &[u8], result: &mut [u8])
-    requires { ⌜ (length (now result) ≡ length (now left)) × (length (now left) ≤ 63) × (length (now left) ≡ length (now right)) × Tower (length (now left)) (now left)
-        × Tower (length (now right)) (now right) ⌝ }
+    requires { ⌜ TwoTowers (now left) (now right) (now result) ⌝ }
     ensures { λ _. ⌜ now (result .exit) ≡ towerOf (product (imagesOf (now (left .entry))) (imagesOf (now (right .entry)))) ⌝ }
 {
     let n = left.len() + 1;

@@ -9,6 +9,9 @@ use Rattle.perm_calls.proofs.Verdicts.{tower-accepted}
 use Rattle.tower_words.proofs.descents.Statement.{statement}
 use Rattle.tower_words.proofs.descents.Tie as tie
 
+abbrev judged : tie.After-descent-mask → tie.After-tower
+judged c = c .before .before .before
+
 returns : tie.Need-returns
 unfolding descentsCall
 returns c = simp (sym (c .before .before .before .tower .ensures) ∙ c .before .checked .given .1)
@@ -18,9 +21,9 @@ descent-mask-requires c κs = tower-accepted _ (sym (c .before .before .tower .e
 
 returns-2 : tie.Need-returns-2
 unfolding descentsCall
-returns-2 c = let t = c .before .before .before .before .before .args .tower .now in
+returns-2 c = let t = judged c .before .before .args .tower .now in
     simp (
-      sym (c .before .before .before .tower .ensures) ∙ c .before .enum-told .given .1,
+      sym (judged c .tower .ensures) ∙ c .before .enum-told .given .1,
       c .descent-mask .ensures,
       ones-mask (descent (length t) (imagesOf t)) (length t),
     )

@@ -43,6 +43,16 @@ module _ {f : Verdict} (t buffer : List ℕ) where
       let m = length-standard t in
       ended-done C.Refused buffer (found e a d k ∙ b) (ap C.Count (d ∙ sym m)) (l ∙ ap (λ n. standard t ++ drop n buffer) (sym m))
 
+-- ---- places: where the tower is judged, and where the buffer is
+
+abbrev judged : tie.After-total → tie.After-tower
+judged c = c .before .before .before
+
+abbrev measured : tie.After-fill-word-arg → tie.After-room
+measured c = c .before .before .before
+
+-- ---- the needs
+
 returns : tie.Need-returns
 returns c = search (bad, needs)
 
@@ -54,8 +64,8 @@ returns-2 c = search (short, needs)
 
 fill-word-requires : tie.Need-fill-word-requires
 fill-word-requires c κs =
-    let at = c .before .before .before in
-    let good = tower-accepted _ (sym (at .before .before .before .before .tower .ensures) ∙ at .before .before .enum-told .given .1) in
+    let at = measured c in
+    let good = tower-accepted _ (sym (judged (at .before) .tower .ensures) ∙ at .before .before .enum-told .given .1) in
     let long = room-accepted _ _ (sym (at .room .ensures) ∙ c .before .enum-told2 .given .1) in
     (good .0, good .1, omega (arith, at .before .total .ensures))
 

@@ -15,7 +15,7 @@ fill-tower-of-inverse-requires c κs =
     let at = c .before .before .before in
     let good = fits _ _ (at .then .ensures) (at .before .before .tower .ensures) (at .before .exact .ensures) (c .before .enum-told .given .1) in
     let lists = tower-accepted _ (good .0) in
-    search needs
+    record { rank = lists .0; tower = lists .1; result-size = good .1 }
 
 returns-2 : tie.Need-returns-2
 unfolding inverseCall

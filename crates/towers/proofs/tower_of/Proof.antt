@@ -4,10 +4,13 @@ use native.Mathlib.Omega.{arith}
 use borrow.Author.Needs.{needs}
 use Rattle.perms.specs.Permutation.{Perm}
 use Rattle.perm_calls.specs.Calls.{towerOfCall}
-use Rattle.perm_calls.proofs.Verdicts.{images-accepted}
+use Rattle.perm_calls.proofs.ImageVerdicts.{images-accepted}
 use Rattle.towers.proofs.Judged.{fits, refused, done}
 use Rattle.towers.proofs.tower_of.Statement.{statement}
 use Rattle.towers.proofs.tower_of.Tie as tie
+
+abbrev start : tie.After-images → tie.Start
+start c = c .before .before .before
 
 returns : tie.Need-returns
 unfolding towerOfCall
@@ -17,7 +20,7 @@ fill-tower-requires : tie.Need-fill-tower-requires
 fill-tower-requires c κs =
     let at = c .before .before .before in
     let good = fits _ _ (at .then .ensures) (at .before .before .images .ensures) (at .before .exact .ensures) (c .before .enum-told .given .1) in
-    let w = at .before .before .before .before .before .args .images .now in
+    let w = start (at .before .before) .args .images .now in
     let lists = images-accepted w (good .0) in
     (omega arith, subst (λ m. Perm m w) (omega arith) (lists .2))
 

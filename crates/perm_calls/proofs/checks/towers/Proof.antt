@@ -10,6 +10,16 @@ use Rattle.perm_calls.proofs.Verdicts.{towers-sized}
 use Rattle.perm_calls.proofs.checks.towers.Statement.{statement}
 use Rattle.perm_calls.proofs.checks.towers.Tie as tie
 
+-- ---- places: where the sizes are judged, and where they were found right
+
+abbrev start : tie.Else1 → tie.Start
+start c = c .before .before .before
+
+abbrev sized : tie.After-then → tie.Else3
+sized c = c .before .before .before
+
+-- ---- the needs
+
 returns : tie.Need-returns
 unfolding towersVerdict
 returns c = simp (less-yes (c .if1 .taken))
@@ -20,11 +30,17 @@ returns-2 c = simp (less-no (c .before .if1 .left), less-yes (c .if2 .taken))
 
 returns-3 : tie.Need-returns-3
 unfolding towersVerdict
-returns-3 c = let t = c .before .before .before .before .before .args .left .now in let u = c .before .before .before .before .before .args .right .now in
-    simp (less-no (c .before .before .if1 .left), less-no (c .before .if2 .left), same-no {x = length t} {a = length u} (λ e. omega (arith, c .if3 .taken)))
+returns-3 c =
+    let few = c .before .before in
+    let u = start few .args in
+    simp (
+      less-no (few .if1 .left),
+      less-no (c .before .if2 .left),
+      same-no {x = length (u .left .now)} {a = length (u .right .now)} (λ e. omega (arith, c .if3 .taken)),
+    )
 
 returns-4 : tie.Need-returns-4
-returns-4 c = let at = c .before .before .before in
+returns-4 c = let at = sized c in
     both (c .then .ensures) (c .before .before .entries .ensures) (c .before .entries2 .ensures)
     ∙ sym (towers-sized _ _ (at .before .before .if1 .left) (at .before .if2 .left) (omega (arith, at .if3 .left)))
 

@@ -17,6 +17,13 @@ Inv-loop images₀ next i₀ i-end images i = (i ≤ i-end) × Filled (λ k. ima
 abbrev μ-loop : tie.MeasureT-loop
 μ-loop images₀ next i₀ i-end images i = i-end - i
 
+-- ---- places: the head of the loop
+
+abbrev head : tie.After-shared-slice-known Inv-loop μ-loop → tie.At-loop Inv-loop μ-loop
+head c = c .before .before .before
+
+-- ---- the needs
+
 loop-holds : tie.Need-loop-holds Inv-loop μ-loop
 loop-holds c = (omega arith, filled-none _ _)
 
@@ -38,18 +45,18 @@ sub-at c = let at = c .before .before .loop in point _ (at .images) (at .i) (c .
 
 shared-slice-read-images : tie.Need-shared-slice-read-images Inv-loop μ-loop
 shared-slice-read-images c =
-    let at = c .before .before .before .loop in
-    let start = c .before .before .before .before in
+    let at = head c .loop in
+    let start = head c .before in
     let w = start .args .images .now in
     omega (arith, start .pre .0, point w (at .images) (at .i) (start .pre .1) (at .inv .1) (omega arith))
 
 slice-write-images : tie.Need-slice-write-images Inv-loop μ-loop
-slice-write-images c = omega (arith, c .before .before .before .loop .inv .1 .same)
+slice-write-images c = omega (arith, head c .loop .inv .1 .same)
 
 loop-again : tie.Need-loop-again Inv-loop μ-loop
 loop-again c =
-    let at = c .before .before .before .loop in
-    let u = c .before .before .before .before .args in
+    let at = head c .loop in
+    let u = head c .before .args in
     let x = getD (u .images .now) (at .i) 0 in
     let index : getD (at .images) (at .i) 0 - 1 ≡ pred x = omega (arith, at .inv .1 .rest (at .i) (omega arith)) in
     (omega arith, filled-more _ (at .inv .1) (omega arith) (ap (λ n. getD (u .next .now) n 0) index))

@@ -12,23 +12,37 @@ Inv-loop tower images₀ i₀ i-end images i = (i ≤ i-end) × Grown tower imag
 abbrev μ-loop : tie.MeasureT-loop
 μ-loop tower images₀ i₀ i-end images i = i-end - i
 
+-- ---- places: before the loop, its head, and the call in a turn
+
+abbrev start : tie.At-loop Inv-loop μ-loop → tie.Start Inv-loop μ-loop
+start c = c .before .before .before
+
+abbrev head : tie.After-shared-slice-known2 Inv-loop μ-loop → tie.At-loop Inv-loop μ-loop
+head c = c .before .before .before
+
+abbrev extended : tie.After-slice-known2 Inv-loop μ-loop → tie.After-extend-at Inv-loop μ-loop
+extended c = c .before .before
+
+-- ---- the needs
+
 loop-holds : tie.Need-loop-holds Inv-loop μ-loop
-loop-holds c = let start = c .before .before in (omega arith, grown-none (start .args .tower .now) (start .args .images .now) (start .pre .0))
+loop-holds c = let first = c .before .before in (omega arith, grown-none (first .args .tower .now) (first .args .images .now) (first .pre .0))
 
 sub-extend-at : tie.Need-sub-extend-at Inv-loop μ-loop
-sub-extend-at c = omega (arith, c .before .before .before .before .before .before .pre .2 .within (c .before .before .before .loop .i))
+sub-extend-at c = omega (arith, start (head c) .pre .2 .within (head c .loop .i))
 
 extend-at-requires : tie.Need-extend-at-requires Inv-loop μ-loop
-extend-at-requires c κs = let at = c .before .before .before .loop in let start = c .before .before .before .before .before .before in
-    (omega (arith, at .inv .1 .size), λ k l. omega (arith, grown-small (start .args .tower .now) (at .images) (at .i) (start .pre .2) (at .inv .0) (at .inv .1) k l))
+extend-at-requires c κs = let at = head c .loop in let first = start (head c) in
+    (omega (arith, at .inv .1 .size), λ k l. omega (arith, grown-small (first .args .tower .now) (at .images) (at .i) (first .pre .2) (at .inv .0) (at .inv .1) k l))
 
 loop-again : tie.Need-loop-again Inv-loop μ-loop
-loop-again c = let at = c .before .before .before .before .before .before .loop in
-    let pre = c .before .before .before .before .before .before .before .before .before .pre in
-    (omega arith, grown-more _ _ _ (at .i) (pre .2) (omega arith) (at .inv .1) (c .before .before .extend-at .ensures))
+loop-again c =
+    let call = extended c in
+    let at = head (call .before) .loop in
+    (omega arith, grown-more _ _ _ (at .i) (start (head (call .before)) .pre .2) (omega arith) (at .inv .1) (call .extend-at .ensures))
 
 same-length : tie.Need-same-length Inv-loop μ-loop
-same-length c = c .before .loop .inv .1 .size ∙ sym (c .before .before .before .before .pre .0)
+same-length c = c .before .loop .inv .1 .size ∙ sym (start (c .before) .pre .0)
 
 returns : tie.Need-returns Inv-loop μ-loop
 returns c = grown-all _ _ (c .before .loop .i) (omega arith) (c .before .loop .inv .1)

@@ -7,7 +7,8 @@ use lib.ListN.{getD}
 use Rattle.lists.proofs.Fill.{Filled, filled-none, filled-more, filled-all}
 use Rattle.perms.specs.Tower.{entry, towerOf}
 use Rattle.perms.proofs.Tower.{getD-tower, length-tower, entry-le}
-use Rattle.perm_calls.proofs.Seen.{Seen, New, seen-none, seen-more, seen-fits, seen-entry, perm-new}
+use Rattle.perm_calls.proofs.Seen.{Seen, New, seen-none, seen-more, seen-fits, perm-new}
+use Rattle.perm_calls.proofs.SeenDigits.{seen-entry}
 use Rattle.towers.proofs.image_lists.fill_tower.Statement.{statement}
 use Rattle.towers.proofs.image_lists.fill_tower.Tie as tie
 

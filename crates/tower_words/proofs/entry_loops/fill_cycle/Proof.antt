@@ -6,8 +6,8 @@ use lib.ListN.{length}
 use Rattle.lists.proofs.Fill.{Filled, filled-none, filled-more, filled-all}
 use Rattle.perms.specs.Tower.{cycle}
 use Rattle.perms.proofs.Word.{length-cycle, getD-cycle}
-use Rattle.tower_words.proofs.words.fill_cycle.Statement.{statement}
-use Rattle.tower_words.proofs.words.fill_cycle.Tie as tie
+use Rattle.tower_words.proofs.entry_loops.fill_cycle.Statement.{statement}
+use Rattle.tower_words.proofs.entry_loops.fill_cycle.Tie as tie
 
 abbrev Inv-loop : tie.InvT-loop
 Inv-loop word₀ j i₀ i-end word i = (i ≤ i-end) × Filled (λ k. j - k) word₀ word i

@@ -1,4 +1,4 @@
--- A loop that makes room for c among the first j images, and a store that puts c after them, extend them by c.
+-- A loop that makes each of the first j images from c on one more, and a store that puts c after them, extend them by c.
 -- Rests on perms' Tower and lists' Fill.
 use mathlib.Core.Path.{_≡_, sym, ap, _∙_}
 use mathlib.Core.List.{List, _++_}

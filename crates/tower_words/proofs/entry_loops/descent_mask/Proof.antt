@@ -5,8 +5,8 @@ use native.Mathlib.Omega.{arith}
 use lib.ListN.{length}
 use Rattle.perms.specs.Tower.{imagesOf, descent, mask}
 use Rattle.tower_words.proofs.Bitmask.{Masked, masked-none, masked-fits, masked-more}
-use Rattle.tower_words.proofs.words.descent_mask.Statement.{statement}
-use Rattle.tower_words.proofs.words.descent_mask.Tie as tie
+use Rattle.tower_words.proofs.entry_loops.descent_mask.Statement.{statement}
+use Rattle.tower_words.proofs.entry_loops.descent_mask.Tie as tie
 
 abbrev Inv-loop : tie.InvT-loop
 Inv-loop tower mask₀ power₀ before₀ i₀ i-end sum power before i = (i ≤ i-end) × Masked tower sum power before i

@@ -7,8 +7,8 @@ use lib.Seq.{take-all}
 use Rattle.lists.proofs.Prefix.{sum-prefix}
 use Rattle.perms.specs.Tower.{total}
 use Rattle.tower_words.proofs.Total.{total-sums}
-use Rattle.tower_words.proofs.words.total.Statement.{statement}
-use Rattle.tower_words.proofs.words.total.Tie as tie
+use Rattle.tower_words.proofs.entry_loops.total.Statement.{statement}
+use Rattle.tower_words.proofs.entry_loops.total.Tie as tie
 
 abbrev Inv-loop : tie.InvT-loop
 Inv-loop tower sum₀ i₀ i-end sum i = (i ≤ i-end) × (sum ≤ 255 * i) × (sum ≡ total (take i tower))
