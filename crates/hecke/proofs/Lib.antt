@@ -9,4 +9,6 @@ mod LowRanks
 mod Letters
 -- the product
 mod Layers
+mod Summands
+mod LowFactors
 mod Products
