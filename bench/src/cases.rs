@@ -1,16 +1,17 @@
 //! The cases: the library beside the other contenders, on random inputs and on sheets.
 
 use crate::clock::{agree, race, Times, INPUTS};
-use crate::{lists, nested, sheet, towers};
+use crate::{before, lists, nested, sheet, towers, tuned};
 use plain::sheet::{Action, Product};
+use std::iter::repeat;
 use std::path::Path;
 use std::process::Command;
 
-/// One line of the table; the library's times come first, then those of (a), (b) and (c).
+/// One line of the table: the times of each contender, by the name of its column. The C is there by each compiler.
 pub struct Row {
     pub call: &'static str,
     pub size: String,
-    pub times: Vec<Times>,
+    pub times: Vec<(&'static str, Times)>,
 }
 
 type Conversion = fn(&[u8], &mut [u8]);
@@ -47,17 +48,28 @@ fn inputs<T>(make: impl Fn(&mut Random) -> T) -> [T; INPUTS] {
 
 impl Row {
     /// Compares the contenders on the first inputs, and times them if they are to be timed.
-    fn new<O: Clone + PartialEq, F: FnMut(usize, &mut O), const N: usize>(
+    fn new<O: Clone + PartialEq, F: FnMut(usize, &mut O)>(
         timed: bool,
         (call, size): (&'static str, String),
-        mut contenders: [F; N],
+        contenders: impl Iterator<Item = (&'static str, F)>,
         inputs: usize,
         blank: O,
     ) -> Row {
+        let (names, mut contenders): (Vec<&str>, Vec<F>) = contenders.unzip();
         agree(&mut contenders, inputs, &blank, &format!("{call}, {size}"));
-        let times = if timed { race(&mut contenders, &blank).to_vec() } else { Vec::new() };
-        Row { call, size, times }
+        let times = if timed { race(&mut contenders, &blank) } else { Vec::new() };
+        Row { call, size, times: names.into_iter().zip(times).collect() }
     }
+}
+
+/// The contenders, those in C and that of an older archive.
+fn with_others<F: Copy, const N: usize>(
+    by: [(&'static str, F); N],
+    tuned: &'static [F],
+    before: &'static [F],
+) -> impl Iterator<Item = (&'static str, F)> {
+    let others = repeat("C").zip(tuned).chain(repeat("before").zip(before));
+    by.into_iter().chain(others.map(|(name, f)| (name, *f)))
 }
 
 fn product(timed: bool, m: usize) -> Row {
@@ -65,11 +77,14 @@ fn product(timed: bool, m: usize) -> Row {
         hecke::product(m, q, left, right, result, scratch).unwrap();
     };
     let inputs = &inputs(|random| (random.word(), random.element(m), random.element(m)));
-    let contenders = [library, nested::product, lists::product, lists::product_kept].map(|product| {
-        move |i: usize, (result, scratch): &mut (Vec<u64>, Vec<u64>)| {
+    let by: [(&str, Product); 4] =
+        [("library", library), ("(a)", nested::product), ("(b)", lists::product), ("(c)", lists::product_kept)];
+    let contenders = with_others(by, tuned::PRODUCTS, before::PRODUCTS).map(|(name, product)| {
+        let run = move |i: usize, (result, scratch): &mut (Vec<u64>, Vec<u64>)| {
             let (q, left, right) = &inputs[i];
             product(m, *q, left, right, result, scratch);
-        }
+        };
+        (name, run)
     });
     let blank = (vec![1; hecke::size(m)], vec![1; hecke::scratch_size(m)]);
     Row::new(timed, ("product", format!("rank {m}")), contenders, INPUTS, blank)
@@ -81,12 +96,14 @@ fn word(timed: bool, m: usize) -> Row {
     };
     let letters = |random: &mut Random| (0..100).map(|_| random.below(m) as u8 + 1).collect::<Vec<u8>>();
     let inputs = &inputs(|random| (random.word(), letters(random), random.element(m)));
-    let contenders = [library, nested::act_word, lists::act_word].map(|act| {
-        move |i: usize, element: &mut Vec<u64>| {
+    let by: [(&str, Action); 3] = [("library", library), ("(a)", nested::act_word), ("(b)", lists::act_word)];
+    let contenders = with_others(by, tuned::ACTIONS, before::ACTIONS).map(|(name, act)| {
+        let run = move |i: usize, element: &mut Vec<u64>| {
             let (q, word, start) = &inputs[i];
             element.copy_from_slice(start);
             act(m, *q, word, element);
-        }
+        };
+        (name, run)
     });
     Row::new(timed, ("word of 100 letters", format!("rank {m}")), contenders, INPUTS, vec![1; hecke::size(m)])
 }
@@ -95,6 +112,7 @@ fn conversion(timed: bool, call: &'static str, points: usize, given: [Vec<u8>; I
     let blank = vec![255; 2 * points - 1 - given[0].len()];
     let given = &given;
     let contenders = by.map(|convert| move |i: usize, result: &mut Vec<u8>| convert(&given[i], result));
+    let contenders = ["library", "(a)"].into_iter().zip(contenders);
     let size = if points == 1 { "1 point".to_string() } else { format!("{points} points") };
     Row::new(timed, (call, size), contenders, INPUTS, blank)
 }
@@ -119,11 +137,12 @@ fn whole_sheet(timed: bool, name: &str) -> Row {
     let sheet = &std::fs::read(top.join("examples").join(name)).expect("the sheet is there");
     let own = std::env::current_exe().unwrap();
     let programs = [(top.join("target/bin/run_sheet"), None), (own.clone(), Some("nested")), (own, Some("lists"))];
-    let contenders = programs.map(|(path, method)| {
-        move |_, output: &mut Vec<u8>| {
+    let contenders = ["library", "(a)", "(b)"].into_iter().zip(programs).map(|(name, (path, method))| {
+        let run = move |_, output: &mut Vec<u8>| {
             let words = method.map(|method| ["--sheet", method]);
             sheet::output_of(Command::new(&path).args(words.iter().flatten()), sheet, output);
-        }
+        };
+        (name, run)
     });
     Row::new(timed, ("whole sheet", name.to_string()), contenders, 1, Vec::new())
 }

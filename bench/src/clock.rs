@@ -14,18 +14,14 @@ pub struct Times {
 }
 
 /// Panics unless all contenders make the same of each of the first inputs, each time in a copy of the blank output.
-pub fn agree<O: Clone + PartialEq, F: FnMut(usize, &mut O), const N: usize>(
-    contenders: &mut [F; N],
-    inputs: usize,
-    blank: &O,
-    name: &str,
-) {
+pub fn agree<O: Clone + PartialEq>(contenders: &mut [impl FnMut(usize, &mut O)], inputs: usize, blank: &O, name: &str) {
     for i in 0..inputs {
-        let outputs = contenders.each_mut().map(|run| {
+        let outputs = contenders.iter_mut().map(|run| {
             let mut output = blank.clone();
             run(i, &mut output);
             output
         });
+        let outputs: Vec<O> = outputs.collect();
         assert!(outputs.iter().all(|output| *output == outputs[0]), "{name}: the contenders differ on input {i}");
     }
 }
@@ -41,23 +37,24 @@ fn batch<O>(run: &mut impl FnMut(usize, &mut O), first: usize, calls: usize, out
 
 /// Times the contenders in turn, round by round, for 3 seconds and at least 15 rounds. The calls of a batch take the first
 /// contender 0.2 ms or more.
-pub fn race<O: Clone, F: FnMut(usize, &mut O), const N: usize>(contenders: &mut [F; N], blank: &O) -> [Times; N] {
+pub fn race<O: Clone>(contenders: &mut [impl FnMut(usize, &mut O)], blank: &O) -> Vec<Times> {
     let mut output = blank.clone();
     let mut calls = 1;
     while calls as f64 * batch(&mut contenders[0], 0, calls, &mut output) < 2e5 {
         calls *= 2;
     }
-    let once = contenders.each_mut().map(|run| batch(run, 0, calls, &mut output));
-    let round = once.iter().sum::<f64>() * calls as f64;
+    let once = contenders.iter_mut().map(|run| batch(run, 0, calls, &mut output));
+    let round = once.sum::<f64>() * calls as f64;
     let rounds = ((3e9 / round) as usize).max(15);
-    let mut times = [const { Vec::new() }; N];
+    let mut times = vec![Vec::new(); contenders.len()];
     for k in 0..rounds {
         for (times, run) in times.iter_mut().zip(contenders.iter_mut()) {
             times.push(batch(run, k * calls, calls, &mut output));
         }
     }
-    times.map(|mut times| {
+    let ends = times.into_iter().map(|mut times| {
         times.sort_by(f64::total_cmp);
         Times { least: times[0], median: times[times.len() / 2] }
-    })
+    });
+    ends.collect()
 }

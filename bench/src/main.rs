@@ -1,5 +1,6 @@
-//! Times of the library's calls beside plain Rust: `bench [--write | --check]`.
+//! Times of the library's calls beside plain Rust and C: `bench [--write | --check]`.
 
+mod before;
 mod cases;
 mod clock;
 mod lists;
@@ -7,6 +8,7 @@ mod nested;
 mod page;
 mod sheet;
 mod towers;
+mod tuned;
 
 use std::io::{self, Read, Write};
 use std::path::Path;

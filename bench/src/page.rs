@@ -8,8 +8,9 @@ use std::process::Command;
 const HEAD: &str = "\
 # Benchmarks
 
-The library's calls beside plain Rust, all in one run on one machine. `cargo run --release --offline -p bench -- --write` makes
-this page; without `--write` it prints the two tables, and with `--check` it compares all results and times nothing.
+The library's calls beside plain Rust and C, all in one run on one machine. `cargo run --release --offline -p bench -- --write`
+makes this page; without `--write` it prints the two tables, and with `--check` it compares all results and times nothing. With
+the variable HECKE_BEFORE set to the full path of an older `libhecke_c.a`, its products and words take part too, as `before`.
 ";
 
 const TERMS: &str = "
@@ -20,6 +21,9 @@ const TERMS: &str = "
   no case of its own for ranks 1 and 2, as the library has; this is why the library is the faster of the two. For towers,
   plain Rust with the same checks, where larger images are counted in a mask of those seen, `bench/src/towers.rs`. For sheets,
   the runner of `rust/plain` by this method.
+- **C**: the same nested method in C tuned by hand, `bench/c/nested.c`, with the library's cases of their own for letters and for
+  ranks 1 and 2, and with no checks. It is compiled by cc and by clang with -O3 for any x86-64 processor, as the archive is; both
+  take part, and the faster is shown.
 - **(b)**: formula 4.4 on plain lists, `bench/src/lists.rs`: each T_v acts through its whole word, as source document 000
   counts. The places of w and ws, and the words, are in tables made before the clock starts; `rust/plain`, written to be read,
   makes words and lists anew for each v. For sheets (b) is `rust/plain` as it is, its tables timed.
@@ -62,44 +66,81 @@ fn time(times: Option<&Times>) -> String {
     format!("{:.1} ({:.1}) {name}", times.least / unit, times.median / unit)
 }
 
+/// The columns of times; the last is there where an older archive is.
+const CONTENDERS: &[&str] = &[
+    "library",
+    "(a)",
+    "C",
+    "(b)",
+    "(c)",
+    #[cfg(before)]
+    "before",
+];
+
+/// The columns of ratios.
+const RATIOS: &[(&str, &str)] = &[
+    ("library", "(a)"),
+    ("library", "C"),
+    ("(b)", "library"),
+    ("(c)", "library"),
+    #[cfg(before)]
+    ("library", "before"),
+];
+
 impl Row {
+    /// The times of a contender, where it is there; of several by one name, the fastest.
+    fn of(&self, name: &str) -> Option<&Times> {
+        let times = self.times.iter().filter(|(own, _)| *own == name).map(|(_, times)| times);
+        times.min_by(|x, y| x.least.total_cmp(&y.least))
+    }
+
     /// The ratio of the least times of two contenders, where both are there.
-    fn ratio(&self, upper: usize, lower: usize) -> Option<f64> {
-        Some(self.times.get(upper)?.least / self.times.get(lower)?.least)
+    fn ratio(&self, upper: &str, lower: &str) -> Option<f64> {
+        Some(self.of(upper)?.least / self.of(lower)?.least)
     }
 
     fn line(&self) -> String {
-        let times: Vec<String> = (0..4).map(|k| time(self.times.get(k))).collect();
-        let ratio = |upper, lower| self.ratio(upper, lower).map_or("–".to_string(), |ratio| format!("{ratio:.2}"));
-        let ratios = [ratio(0, 1), ratio(2, 0), ratio(3, 0)].join(" | ");
-        format!("| {} | {} | {} | {ratios} |", self.call, self.size, times.join(" | "))
+        let times = CONTENDERS.iter().map(|name| time(self.of(name)));
+        let ratio = |ratio: Option<f64>| ratio.map_or("–".to_string(), |ratio| format!("{ratio:.2}"));
+        let ratios = RATIOS.iter().map(|(upper, lower)| ratio(self.ratio(upper, lower)));
+        joined([self.call.to_string(), self.size.clone()].into_iter().chain(times).chain(ratios))
     }
+}
+
+/// A line of a table.
+fn joined(cells: impl Iterator<Item = String>) -> String {
+    format!("| {} |\n", cells.collect::<Vec<_>>().join(" | "))
 }
 
 /// The table of times and ratios.
 pub fn table(rows: &[Row]) -> String {
-    let heads = "| call | size | library | (a) | (b) | (c) | library / (a) | (b) / library | (c) / library |";
-    let rule = "|---|---|---|---|---|---|---|---|---|";
-    let lines: Vec<String> = rows.iter().map(Row::line).collect();
-    format!("{heads}\n{rule}\n{}\n", lines.join("\n"))
+    let names = ["call", "size"].iter().chain(CONTENDERS).map(|name| name.to_string());
+    let heads = names.chain(RATIOS.iter().map(|(upper, lower)| format!("{upper} / {lower}")));
+    let rule = "|---".repeat(2 + CONTENDERS.len() + RATIOS.len());
+    let lines: String = rows.iter().map(Row::line).collect();
+    format!("{}{rule}|\n{lines}", joined(heads))
 }
 
 /// The aims, with what was measured and whether it holds.
 pub fn aims(rows: &[Row]) -> String {
-    let largest = |call: &str| {
-        let sizes = rows.iter().filter(|row| row.call == call);
-        let ratios = sizes.filter_map(|row| row.ratio(0, 1));
+    let largest = |call: &str, lower: &str| {
+        let ratios = rows.iter().filter(|row| row.call == call).filter_map(|row| row.ratio("library", lower));
         ratios.fold(0.0, f64::max)
     };
     let product = rows.iter().find(|row| (row.call, row.size.as_str()) == ("product", "rank 6")).unwrap();
-    let (same, lists) = (product.ratio(0, 1).unwrap(), product.ratio(2, 0).unwrap());
-    let (to_tower, to_images) = (largest("image list to tower"), largest("tower to image list"));
-    let aims = [
+    let (same, lists) = (product.ratio("library", "(a)").unwrap(), product.ratio("(b)", "library").unwrap());
+    let (to_tower, to_images) = (largest("image list to tower", "(a)"), largest("tower to image list", "(a)"));
+    let mut aims = vec![
         ("product of rank 6: library / (a) at most 1.5", same, same <= 1.5),
         ("product of rank 6: (b) / library at least 2", lists, lists >= 2.0),
         ("image list to tower: library / (a) at most 1.5 at each size", to_tower, to_tower <= 1.5),
         ("tower to image list: library / (a) at most 1.5 at each size", to_images, to_images <= 1.5),
     ];
+    if cfg!(before) {
+        let (product, word) = (largest("product", "before"), largest("word of 100 letters", "before"));
+        aims.push(("product: library / before at most 1.02 at each rank", product, product <= 1.02));
+        aims.push(("word of 100 letters: library / before at most 1.02 at each rank", word, word <= 1.02));
+    }
     let mut text = String::from("| aim | measured | holds |\n|---|---|---|\n");
     for (aim, measured, holds) in aims {
         writeln!(text, "| {aim} | {measured:.2} | {} |", if holds { "yes" } else { "no" }).unwrap();
@@ -118,9 +159,10 @@ fn machine() -> String {
     let cpuinfo = std::fs::read_to_string("/proc/cpuinfo").unwrap_or_default();
     let name = cpuinfo.lines().find_map(|line| line.strip_prefix("model name")?.split(": ").nth(1)).unwrap_or("unknown");
     let cores = std::thread::available_parallelism().map_or(1, |cores| cores.get());
-    let versions = [first_line("rustc", "--version"), first_line("rt", "version")];
-    let compilers: Vec<String> = versions.into_iter().flatten().collect();
-    format!("Processor: {name}, {cores} cores. Compilers: {}.\n", compilers.join("; "))
+    let programs = [("rustc", "--version"), ("cc", "--version"), ("clang", "--version"), ("rt", "version")];
+    let compilers: Vec<String> = programs.iter().filter_map(|(program, word)| first_line(program, word)).collect();
+    let missing = if cfg!(clang) { "" } else { " There is no clang here: the C is by cc alone." };
+    format!("Processor: {name}, {cores} cores. Compilers: {}.{missing}\n", compilers.join("; "))
 }
 
 /// The whole page.

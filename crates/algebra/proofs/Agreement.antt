@@ -4,11 +4,12 @@ use mathlib.Core.Path.{_≡_, refl}
 use mathlib.Core.List.{List, map}
 use Prim.Native.Nat.{ℕ}
 use Rattle.ring.specs.Modular.{modular, words}
-use Rattle.lists.specs.Lists.{same, less, range, tally}
+use Rattle.lists.specs.Lists.{same, less, range, first, tally}
 use Rattle.lists.specs.Numbers.{factorial, series}
 use Rattle.lists.specs.Blocks.{block, blocks}
-use Rattle.perms.specs.Permutation.{product, identity, swap, generator, ofWord, below, len}
-use Rattle.perms.specs.Tower.{above, entry, towerOf, cycle, cycles, standard}
+use Rattle.perms.specs.Permutation.{product, identity, swap, generator, ofWord, below, len, descent}
+use Rattle.perms.specs.Tower.{above, entry, cycle}
+use Rattle.perms.specs.ShortestWord.{firstLetters, shortestWord}
 use Rattle.algebra.specs.Place.{place, join, perms}
 use Rattle.algebra.specs.Element.{coefficient, element, plus, scale, sumOver}
 use Rattle.algebra.specs.Product.{minusOne, letter, act, times}
@@ -35,7 +36,7 @@ abbrev counted : Vector → ℕ
 counted (vector m l q h g k n) = operations (nested ℕ words q (minusOne ℕ words q) m l h g .count)
 
 pub products : map defined vectors ≡ map result vectors
-unfolding modular same less range tally product identity swap generator ofWord below len above entry towerOf cycle cycles standard
+unfolding modular same less range first tally product identity swap generator ofWord below len above entry cycle descent firstLetters shortestWord
     factorial series blocks place join perms coefficient element plus scale sumOver minusOne letter act times
 products = refl
 

@@ -7,7 +7,7 @@ use Rattle.algebra.specs.Element.{Element}
 use Rattle.algebra.specs.Laws.{defined, Laws}
 use Rattle.algebra.specs.Maps.{Maps}
 use Rattle.algebra.proofs.NestedMaps.{maps}
-use Rattle.algebra.proofs.Onto.{any, Onto, every, every3, elements}
+use Rattle.algebra.proofs.Onto.{any, Onto, every, every2, every3, elements}
 
 module _ {A B : Type 0} {o : Ops A} {p : Ops B} {f : A → B} (H : Hom A B o p f) (q r : A) {ok : B → Type 0} (s : Onto f any ok) (m : ℕ) where
   M : Maps A B o p f q r
@@ -30,4 +30,5 @@ module _ {A B : Type 0} {o : Ops A} {p : Ops B} {f : A → B} (H : Hom A B o p f
     commute = λ i j a b d. simp (M .times, M .T) at (ap (map f) (L .commute i j a b d));
     alike = λ w x y c d. every E _ (λ h a. simp (M .act) at (ap (map f) (L .alike w x y c d h a)));
     acts = λ w x c. every E _ (λ h a. simp (M .act, M .times, M .basis) at (ap (map f) (L .acts w x c h a)));
+    by-words = λ x c. every2 E E _ (λ h g a b. simp (M .times, M .sumOver, M .scale, M .coefficient, M .act) at (ap (map f) (L .by-words x c h g a b)));
   }

@@ -37,6 +37,8 @@ module _ {A B : Type 0} {o : Ops A} {p : Ops B} {f : A → B} (H : Hom A B o p f
   pub carry-method : Method A o q r any m → Method B p (f q) (f r) ok m
   unfolding mapped
   carry-method N = record {
+    by-words = λ l b x c. every2 (E m) (E l) _ (λ h g e d.
+        simp (M .times, M .sumOver, M .scale, M .coefficient, M .act) at (ap (map f) (N .by-words l b x c h g e d)));
     cycle-times = λ j l b c. every (E m) _ (λ h e. simp (M .times, M .basis, M .act) at (ap (map f) (N .cycle-times j l b c h e)));
     proposition = λ j l b c d. every (E m) _ (λ h e. carry-proposition j l h (N .proposition j l b c d h e));
     act-value = λ j l b c. every (E m) _ (λ h e.

@@ -1,31 +1,26 @@
--- The definitions on elements do to the coefficients what the actions on functions of permutations do: a letter, a word, and the product.
--- Rests on Coefficients, Words, Convolution and perms' Longer.
-use mathlib.Core.Path.{_≡_, refl, ap, _∙_}
+-- The definitions on elements do to the coefficients what the actions on functions of permutations do: a letter and a word.
+-- A product has as many coefficients as its first factor. Rests on Coefficients, Words and perms' Longer.
+use mathlib.Core.Path.{_≡_, refl, _∙_}
 use mathlib.Core.Bool.{Bool, true, false, cond}
 use mathlib.Core.List.{List, [], _∷_}
-use Prim.Native.Nat.{ℕ, suc, _≤_}
+use Prim.Native.Nat.{ℕ, suc}
 use lib.ListN.{length}
 use Rattle.ring.specs.Ring.{Ops}
-use Rattle.ring.proofs.Combination.{comb}
 use Rattle.lists.specs.Numbers.{factorial}
-use Rattle.perms.specs.Permutation.{Perm, Letter, Word}
-use Rattle.perms.specs.Tower.{towerOf, standard}
+use Rattle.perms.specs.Permutation.{Letter, Word}
+use Rattle.perms.specs.ShortestWord.{shortestWord}
 use Rattle.perms.proofs.Perm.{rgt}
 use Rattle.perms.proofs.Products.{product-generator}
-use Rattle.perms.proofs.Word.{word-up}
 use Rattle.perms.proofs.Longer.{ascR-longer}
 use Rattle.perms.proofs.Ascent.{ascR}
-use Rattle.perms.proofs.Lengths.{standard-shortest}
 use Rattle.algebra.specs.Place.{perms}
-use Rattle.algebra.specs.Element.{coefficient, scale}
+use Rattle.algebra.specs.Element.{coefficient}
 use Rattle.algebra.specs.Product.{letter, act, times}
-use Rattle.algebra.proofs.Functions.{Eq, sum-all}
+use Rattle.algebra.proofs.Functions.{Eq}
 use Rattle.algebra.proofs.Lists.{scale-length}
-use Rattle.algebra.proofs.Enumeration.{perms-perm}
-use Rattle.algebra.proofs.Coefficients.{element-length, coefficient-element, coefficient-scale, sumOver-length, coefficient-sumOver}
+use Rattle.algebra.proofs.Coefficients.{element-length, coefficient-element, sumOver-length}
 use Rattle.algebra.proofs.Generator.{step, R}
 use Rattle.algebra.proofs.Words.{Rw, Rw-cong}
-use Rattle.algebra.proofs.Convolution.{prod}
 
 module _ (A : Type 0) (o : Ops A) (q r : A) where
   -- ---- letters
@@ -62,25 +57,7 @@ module _ (A : Type 0) (o : Ops A) (q r : A) where
 
   -- ---- products
 
-  abbrev term : ℕ → List A → List A → List ℕ → List A
-  term m h g v = scale A o (coefficient A o g v) (act A o q r m (standard (towerOf v)) h)
-
-  term-length : (m : ℕ) (h g : List A) → length h ≡ factorial (suc m) → (v : List ℕ) → length (term m h g v) ≡ factorial (suc m)
-  term-length m h g e v = scale-length A o (coefficient A o g v) (act A o q r m (standard (towerOf v)) h) ∙ act-length m (standard (towerOf v)) h e
-
   pub times-length : (m l : ℕ) (h g : List A) → length h ≡ factorial (suc m) → length (times A o q r m l h g) ≡ factorial (suc m)
   unfolding times
-  times-length m l h g e = sumOver-length A o m (perms l) (term m h g) (λ v i. term-length m h g e v)
-
-  pub coefficient-times : {m l : ℕ} (h g : List A) → l ≤ m → length h ≡ factorial (suc m)
-      → Eq m (coefficient A o (times A o q r m l h g)) (prod A o q r l (coefficient A o h) (coefficient A o g))
-  unfolding times prod comb
-  coefficient-times {m} {l} h g k e w p =
-      coefficient-sumOver A o m (perms l) (term m h g) (λ v i. term-length m h g e v) w p
-      ∙ sum-all A o (Perm l) (perms l) _ _ (perms-perm l) each
-    where
-      each : (v : List ℕ) → Perm l v → coefficient A o (term m h g v) w ≡ o .mul (coefficient A o g v) (Rw A o q r (standard (towerOf v)) (coefficient A o h) w)
-      each v c =
-          let x = standard (towerOf v) in
-          coefficient-scale A o m (coefficient A o g v) (act A o q r m x h) (act-length m x h e) w p
-          ∙ ap (o .mul (coefficient A o g v)) (coefficient-act x h (word-up x k (standard-shortest l v c .word)) w p)
+  times-length m l h g e = sumOver-length A o m (perms l) _ (λ v i.
+      scale-length A o (coefficient A o g v) (act A o q r m (shortestWord l v) h) ∙ act-length m (shortestWord l v) h e)

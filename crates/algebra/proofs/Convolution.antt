@@ -1,5 +1,5 @@
--- The product of coefficient functions: it is the same from the left, it is associative, and h T_v is any shortest word of v on h. Rests on Words,
--- Reduced, Enumeration and ring's Combination.
+-- The product of coefficient functions: it is the same from the left, it is associative, and h T_v is any shortest word of v on h, also where the rank of
+-- v is lower than that of h. Rests on Words, Reduced, Enumeration, ring's Combination, and perms' ShortestWord and HigherRank.
 --
 --   prod l h g      h g for g of rank l: the sum over v of g(v) h T_v
 --   prodΛ m h g     the sum over u of h(u) T_u g
@@ -10,9 +10,10 @@ use native.Mathlib.Omega.{arith}
 use Rattle.ring.specs.Ring.{Ops, Ring}
 use Rattle.ring.proofs.Combination.{comb, comb-swap}
 use Rattle.perms.specs.Permutation.{Perm, Word, identity, Shortest}
-use Rattle.perms.specs.Tower.{towerOf, standard}
+use Rattle.perms.specs.ShortestWord.{shortestWord}
 use Rattle.perms.proofs.Word.{word-up}
-use Rattle.perms.proofs.Lengths.{standard-shortest}
+use Rattle.perms.proofs.ShortestWord.{shortestWord-shortest}
+use Rattle.perms.proofs.HigherRank.{short-up}
 use Rattle.algebra.specs.Place.{perms}
 use Rattle.algebra.proofs.Functions.{Eq, sum-all}
 use Rattle.algebra.proofs.Enumeration.{perms-perm}
@@ -22,10 +23,10 @@ use Rattle.algebra.proofs.Reduced.{short-R, short-L}
 
 module _ (A : Type 0) (o : Ops A) (q r : A) (m : ℕ) where
   unfoldable pub prod : (List ℕ → A) → (List ℕ → A) → List ℕ → A
-  prod h g = comb A o (perms m) g (λ v. Rw A o q r (standard (towerOf v)) h)
+  prod h g = comb A o (perms m) g (λ v. Rw A o q r (shortestWord m v) h)
 
   unfoldable pub prodΛ : (List ℕ → A) → (List ℕ → A) → List ℕ → A
-  prodΛ h g = comb A o (perms m) h (λ u. Lw A o q r (standard (towerOf u)) g)
+  prodΛ h g = comb A o (perms m) h (λ u. Lw A o q r (shortestWord m u) g)
 
   -- ---- by values at permutations
 
@@ -37,11 +38,11 @@ module _ (A : Type 0) (o : Ops A) (q r : A) (m : ℕ) where
   -- g may be of lower rank than h
   pub prod-cong : {n : ℕ} {h h' g g' : List ℕ → A} → m ≤ n → Eq n h h' → Eq m g g' → Eq n (prod h g) (prod h' g')
   unfolding prod
-  prod-cong l a b = comb-cong b (λ v c. Rw-cong A o q r (standard (towerOf v)) (word-up (standard (towerOf v)) l (standard-shortest m v c .word)) a)
+  prod-cong l a b = comb-cong b (λ v c. Rw-cong A o q r (shortestWord m v) (word-up (shortestWord m v) l (shortestWord-shortest m v c .word)) a)
 
   Λ-cong : (h : List ℕ → A) {g g' : List ℕ → A} → Eq m g g' → Eq m (prodΛ h g) (prodΛ h g')
   unfolding prodΛ
-  Λ-cong h b = comb-cong (λ u c. refl) (λ u c. Lw-cong A o q r (standard (towerOf u)) b)
+  Λ-cong h b = comb-cong (λ u c. refl) (λ u c. Lw-cong A o q r (shortestWord m u) b)
 
   module _ (𝓡 : Ring A o) where
     abbrev δ₁ : List ℕ → A
@@ -51,24 +52,24 @@ module _ (A : Type 0) (o : Ops A) (q r : A) (m : ℕ) where
 
     Λ-one : (h : List ℕ → A) → Eq m (prodΛ h δ₁) h
     unfolding prodΛ comb
-    Λ-one h w p = comb-cong (λ u c. refl) (λ u c. short-L A o q r 𝓡 (standard-shortest m u c)) w p ∙ delta-sum A o 𝓡 m h w p
+    Λ-one h w p = comb-cong (λ u c. refl) (λ u c. short-L A o q r 𝓡 (shortestWord-shortest m u c)) w p ∙ delta-sum A o 𝓡 m h w p
 
     pub one-prod : (g : List ℕ → A) → Eq m (prod δ₁ g) g
     unfolding prod comb
-    one-prod g w p = comb-cong (λ v c. refl) (λ v c. short-R A o q r 𝓡 (standard-shortest m v c)) w p ∙ delta-sum A o 𝓡 m g w p
+    one-prod g w p = comb-cong (λ v c. refl) (λ v c. short-R A o q r 𝓡 (shortestWord-shortest m v c)) w p ∙ delta-sum A o 𝓡 m g w p
 
     -- ---- left and right commute
 
     Rw-Λ : (x : List ℕ) (h g : List ℕ → A) → Word m x → Eq m (Rw A o q r x (prodΛ h g)) (prodΛ h (Rw A o q r x g))
     unfolding prodΛ
     Rw-Λ x h g a w p =
-        rw (Rw-comb A o q r 𝓡 x) (comb-cong (λ u c. refl) (λ u c y d. sym (Lw-Rw A o q r 𝓡 (standard (towerOf u)) x g (standard-shortest m u c .word) a y d)) w p)
+        rw (Rw-comb A o q r 𝓡 x) (comb-cong (λ u c. refl) (λ u c y d. sym (Lw-Rw A o q r 𝓡 (shortestWord m u) x g (shortestWord-shortest m u c .word) a y d)) w p)
 
     prod-through : (h g k : List ℕ → A) → Eq m (prod (prodΛ h g) k) (prodΛ h (prod g k))
     unfolding prod prodΛ
     prod-through h g k w p =
-        comb-cong (λ v c. refl) (λ v c. Rw-Λ (standard (towerOf v)) h g (standard-shortest m v c .word)) w p
-        ∙ comb-swap A o 𝓡 (perms m) (perms m) k h (λ v u. Lw A o q r (standard (towerOf u)) (Rw A o q r (standard (towerOf v)) g)) w
+        comb-cong (λ v c. refl) (λ v c. Rw-Λ (shortestWord m v) h g (shortestWord-shortest m v c .word)) w p
+        ∙ comb-swap A o 𝓡 (perms m) (perms m) k h (λ v u. Lw A o q r (shortestWord m u) (Rw A o q r (shortestWord m v) g)) w
         ∙ sym (simp (Lw-comb A o q r 𝓡))
 
     pub prod-Λ : (h g : List ℕ → A) → Eq m (prod h g) (prodΛ h g)
@@ -90,3 +91,11 @@ module _ (A : Type 0) (o : Ops A) (q r : A) (m : ℕ) where
     -- two shortest words of v act alike
     pub act-alike : (h : List ℕ → A) {x y v : List ℕ} → Shortest m x v → Shortest m y v → Eq m (Rw A o q r x h) (Rw A o q r y h)
     act-alike h s t w p = sym (prod-delta h s w p) ∙ prod-delta h t w p
+
+-- g may be of lower rank than h, and T_v act through any shortest word of v
+module _ (A : Type 0) (o : Ops A) (q r : A) (𝓡 : Ring A o) where
+  pub prod-words : {l m : ℕ} (x : List ℕ → List ℕ) (h g : List ℕ → A) → l ≤ m → ((v : List ℕ) → Perm l v → Shortest l (x v) v)
+      → Eq m (prod A o q r l h g) (comb A o (perms l) g (λ v. Rw A o q r (x v) h))
+  unfolding prod
+  prod-words {l} {m} x h g k s =
+      comb-cong A o q r l (λ v c. refl) (λ v c. act-alike A o q r m 𝓡 h (short-up k (shortestWord-shortest l v c)) (short-up k (s v c)))

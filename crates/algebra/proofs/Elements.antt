@@ -10,22 +10,27 @@ use lib.ListN.{length}
 use Rattle.ring.specs.Ring.{Ops}
 use Rattle.ring.specs.Sum.{sum}
 use Rattle.ring.proofs.Sum.{sum-cong}
+use Rattle.ring.proofs.Combination.{comb}
 use Rattle.lists.specs.Numbers.{factorial}
 use Rattle.lists.specs.Blocks.{block}
+use Rattle.lists.proofs.All.{all-member}
 use Rattle.lists.proofs.Blocks.{block-length}
 use Rattle.perms.specs.Permutation.{Perm, Word}
-use Rattle.algebra.specs.Place.{join}
+use Rattle.perms.specs.ShortestWord.{shortestWord}
+use Rattle.perms.proofs.Word.{word-up}
+use Rattle.perms.proofs.ShortestWord.{shortestWord-shortest}
+use Rattle.algebra.specs.Place.{join, perms}
 use Rattle.algebra.specs.Element.{coefficient, plus, scale, sumOver, basis}
 use Rattle.algebra.specs.Product.{act, times}
 use Rattle.algebra.proofs.Functions.{Eq}
 use Rattle.algebra.proofs.Lists.{plus-length, scale-length}
-use Rattle.algebra.proofs.Enumeration.{perm-join}
+use Rattle.algebra.proofs.Enumeration.{perm-join, perms-perm}
 use Rattle.algebra.proofs.Order.{coefficient-block}
 use Rattle.algebra.proofs.Delta.{delta}
 use Rattle.algebra.proofs.Coefficients.{same-element, coefficient-plus, coefficient-scale, sumOver-length, coefficient-sumOver, basis-length, coefficient-basis}
 use Rattle.algebra.proofs.Words.{Rw, Rw-cong}
 use Rattle.algebra.proofs.Convolution.{prod, prod-cong}
-use Rattle.algebra.proofs.CoefficientActions.{act-length, coefficient-act, times-length, coefficient-times}
+use Rattle.algebra.proofs.CoefficientActions.{act-length, coefficient-act}
 
 module _ (A : Type 0) (o : Ops A) where
   pub record Has (m : ℕ) (h : List A) (F : List ℕ → A) : Type 0 where
@@ -69,13 +74,6 @@ module _ (A : Type 0) (o : Ops A) where
       values = λ w p. coefficient-act A o q r x h c w p ∙ Rw-cong A o q r x c (a .values) w p;
     }
 
-    -- g may be of lower rank
-    pub has-times : {l : ℕ} {g : List A} {G : List ℕ → A} → l ≤ m → Has l g G → (q r : A) → Has m (times A o q r m l h g) (prod A o q r l F G)
-    has-times {l} {g} n b q r = record {
-      size = times-length A o q r m l h g (a .size);
-      values = λ w p. coefficient-times A o q r h g n (a .size) w p ∙ prod-cong A o q r l n (a .values) (b .values) w p;
-    }
-
     module _ {g : List A} {G : List ℕ → A} (b : Has m g G) where
       pub has-plus : Has m (plus A o h g) (λ w. o .add (F w) (G w))
       has-plus = record {
@@ -85,3 +83,19 @@ module _ (A : Type 0) (o : Ops A) where
 
       pub equal-elements : Eq m F G → h ≡ g
       equal-elements e = same-element A o m h g (a .size) (b .size) (λ w p. has-eq e .values w p ∙ sym (b .values w p))
+
+  -- ---- products
+
+  module _ {m : ℕ} {h : List A} {F : List ℕ → A} (a : Has m h F) where
+    -- the sum over v of c(v) times h acted on by the word x(v)
+    pub has-words : (q r : A) {l : ℕ} (x : List ℕ → List ℕ) (c : List ℕ → A) → ((v : List ℕ) → Perm l v → Word m (x v))
+        → Has m (sumOver A o m (perms l) (λ v. scale A o (c v) (act A o q r m (x v) h))) (comb A o (perms l) c (λ v. Rw A o q r (x v) F))
+    unfolding comb
+    has-words q r {l} x c d = has-sumOver (perms l) (λ v i. has-scale (has-act a q r (x v) (d v (all-member (Perm l) i (perms-perm l)))) (c v))
+
+    -- g may be of lower rank
+    pub has-times : {l : ℕ} {g : List A} {G : List ℕ → A} → l ≤ m → Has l g G → (q r : A) → Has m (times A o q r m l h g) (prod A o q r l F G)
+    unfolding times prod
+    has-times {l} {g} n b q r = has-eq
+        (has-words q r (shortestWord l) (coefficient A o g) (λ v c. word-up (shortestWord l v) n (shortestWord-shortest l v c .word)))
+        (prod-cong A o q r l n (λ w p. refl) (b .values))

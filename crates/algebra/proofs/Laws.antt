@@ -1,5 +1,5 @@
 -- The laws of the algebra hold for the definitions on lists, in every commutative ring. Rests on Elements,
--- Convolution, Linear and Relations.
+-- AnyWords, Convolution, Linear and Relations.
 use mathlib.Core.Path.{_≡_, sym, _∙_}
 use mathlib.Core.List.{List}
 use Prim.Native.Nat.{ℕ}
@@ -20,6 +20,7 @@ use Rattle.algebra.proofs.Convolution.{prod, one-prod, prod-assoc, prod
 use Rattle.algebra.proofs.Linear.{prod-plus, prod-scale, plus-prod, scale-prod}
 use Rattle.algebra.proofs.Relations.{quadratic, commuting, braid}
 use Rattle.algebra.proofs.Elements.{Has, has-own, has-basis, has-eq, has-scale, has-act, has-plus, has-times, equal-elements}
+use Rattle.algebra.proofs.AnyWords.{times-words}
 
 module _ (A : Type 0) (o : Ops A) (q r : A) (m : ℕ) (𝓡 : Ring A o) where
   abbrev H : List A → (List ℕ → A) → Type 0
@@ -78,6 +79,7 @@ module _ (A : Type 0) (o : Ops A) (q r : A) (m : ℕ) (𝓡 : Ring A o) where
     commute = λ i j a b d. equal-elements A o (then (t a) b) (then (t b) a) (commuting A o q r m 𝓡 δ₁ a b d);
     alike = λ w x y s t h a. acts s a ∙ sym (acts (search (arith, t)) a);
     acts = λ w x s h a. acts s a;
+    by-words = λ x s h g a b. times-words A o q r 𝓡 x h g (omega arith) (λ v c. search (arith, s v c)) (a .size) (b .size);
   }
     where
       own : {h : List A} → Element ok m h → H h (coefficient A o h)

@@ -10,6 +10,7 @@ pub mod Enumeration
 pub mod Place
 pub mod Places
 pub mod Order
+pub mod Inverses
 -- the algebra on coefficient functions
 pub mod Delta
 pub mod Generator
@@ -22,6 +23,7 @@ pub mod Relations
 pub mod Coefficients
 pub mod CoefficientActions
 pub mod Elements
+pub mod AnyWords
 pub mod Unit
 pub mod WordSlices
 pub mod Laws

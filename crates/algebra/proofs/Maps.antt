@@ -1,17 +1,20 @@
--- Elements and their product commute with a map of ring operations. Rests on the definitions alone.
+-- Elements, their product and their pairing commute with a map of ring operations. Rests on ring's Hom.
 use mathlib.Core.Path.{_≡_, refl, sym, ap, ap₂, _∙_, fun-ext}
 use mathlib.Core.Bool.{Bool, true, false, cond}
 use mathlib.Core.List.{List, [], _∷_, map, map-map}
-use Prim.Native.Nat.{ℕ, suc}
+use Prim.Native.Nat.{ℕ, zero, suc}
 use lib.ListN.{getD, List·getD-map}
 use Rattle.ring.specs.Ring.{Ops, Hom}
+use Rattle.ring.specs.Sum.{sum}
+use Rattle.ring.proofs.Hom.{hom-sum}
 use Rattle.lists.specs.Lists.{same, less, range}
 use Rattle.lists.specs.Numbers.{factorial}
 use Rattle.perms.specs.Permutation.{product, identity, generator, len}
-use Rattle.perms.specs.Tower.{towerOf, standard}
+use Rattle.perms.specs.ShortestWord.{shortestWord}
 use Rattle.algebra.specs.Place.{place, perms}
 use Rattle.algebra.specs.Element.{coefficient, element, plus, scale, sumOver, basis, unit, T}
 use Rattle.algebra.specs.Product.{minusOne, basisLetter, letter, act, times}
+use Rattle.algebra.specs.Pairing.{power, pairing}
 
 pub map-cond : {X Y : Type 0} (k : X → Y) (b : Bool) {x y : X} {x' y' : Y} → k x ≡ x' → k y ≡ y' → k (cond b x y) ≡ cond b x' y'
 map-cond k true e d = e
@@ -84,4 +87,15 @@ module _ {A B : Type 0} {o : Ops A} {p : Ops B} {f : A → B} (H : Hom A B o p f
     pub map-times : (m l : ℕ) (h g : List A) → map f (times A o q r m l h g) ≡ times B p (f q) (f r) m l (map f h) (map f g)
     unfolding times
     map-times m l h g = map-sumOver m (perms l) _ ∙ ap (sumOver B p m (perms l)) (fun-ext (λ v.
-        map-scale (coefficient A o g v) (act A o q r m (standard (towerOf v)) h) ∙ ap₂ (scale B p) (map-coefficient g v) (map-act m (standard (towerOf v)) h)))
+        map-scale (coefficient A o g v) (act A o q r m (shortestWord l v) h) ∙ ap₂ (scale B p) (map-coefficient g v) (map-act m (shortestWord l v) h)))
+
+  -- ---- the pairing
+
+  pub map-power : (x : A) (n : ℕ) → f (power A o x n) ≡ power B p (f x) n
+  unfolding power
+  map-power x zero = H .one
+  map-power x (suc n) = H .mul x (power A o x n) ∙ ap (p .mul (f x)) (map-power x n)
+
+  pub map-pairing : (q : A) (m : ℕ) (a b : List A) → f (pairing A o q m a b) ≡ pairing B p (f q) m (map f a) (map f b)
+  unfolding pairing
+  map-pairing q m a b = hom-sum A B o p f H (perms m) _ ∙ ap (sum B p (perms m)) (fun-ext (λ w. simp (H .mul, map-power, map-coefficient)))

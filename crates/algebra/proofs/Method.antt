@@ -1,4 +1,4 @@
--- The nested method is right in every commutative ring: the record `Method`. Rests on Laws, Proposition, Recursion, NestedAct and Nested.
+-- The nested method is right in every commutative ring: the record `Method`. Rests on AnyWords, Laws, Proposition, Recursion, NestedAct and Nested.
 use mathlib.Core.Path.{_≡_, sym, ap₂, _∙_}
 use mathlib.Core.List.{List}
 use Prim.Native.Nat.{ℕ, zero, suc, _+_, _-_, _≤_}
@@ -14,6 +14,7 @@ use Rattle.perms.proofs.CycleReduced.{cycle-shortest}
 use Rattle.algebra.specs.Element.{sumOver}
 use Rattle.algebra.specs.Product.{act, times}
 use Rattle.algebra.specs.Method.{Method}
+use Rattle.algebra.proofs.AnyWords.{times-words}
 use Rattle.algebra.proofs.Proposition.{proposition}
 use Rattle.algebra.proofs.Laws.{laws}
 use Rattle.algebra.proofs.Recursion.{recursion}
@@ -33,6 +34,7 @@ recursion-at A o q r 𝓡 m (suc l) h g l1 lm e d =
 
 pub method : (A : Type 0) (o : Ops A) (q r : A) (𝓡 : Ring A o) (ok : A → Type 0) (m : ℕ) → Method A o q r ok m
 method A o q r 𝓡 ok m = record {
+  by-words = λ l b x s h g e d. times-words A o q r 𝓡 x h g b s (e .size) (d .size);
   cycle-times = λ j l b c h e. sym (laws A o q r m 𝓡 ok .acts (a m j l) (cycle j l) (cycle-shortest m j l b c) h e);
   proposition = λ j l b c d h e. proposition A o q r 𝓡 m j l h b c d (e .size);
   act-value = λ j l b c h e. act-value A o q r 𝓡 m j l h b c (e .size);

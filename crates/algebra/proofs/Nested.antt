@@ -8,12 +8,13 @@ use Rattle.ring.specs.Ring.{Ops, Ring}
 use Rattle.ring.specs.Sum.{sum}
 use Rattle.ring.proofs.Ring.{add-zero}
 use Rattle.ring.proofs.Combination.{comb}
-use Rattle.lists.specs.Lists.{range}
+use Rattle.lists.specs.Lists.{range, tally}
 use Rattle.lists.specs.Numbers.{factorial, series}
 use Rattle.lists.specs.Blocks.{block}
 use Rattle.lists.proofs.Blocks.{block-length}
-use Rattle.perms.specs.Permutation.{identity}
-use Rattle.perms.specs.Tower.{towerOf, cycle, cycles, standard}
+use Rattle.perms.specs.Permutation.{identity, below, len}
+use Rattle.perms.specs.Tower.{cycle}
+use Rattle.perms.specs.ShortestWord.{firstLetters, shortestWord}
 use Rattle.algebra.specs.Place.{place, perms}
 use Rattle.algebra.specs.Element.{coefficient, scale, sumOver}
 use Rattle.algebra.specs.Product.{act, times}
@@ -28,7 +29,7 @@ use Rattle.algebra.proofs.NestedAct.{act-value}
 
 module _ (A : Type 0) (o : Ops A) (q r : A) (𝓡 : Ring A o) where
   times-zero : (m : ℕ) (h g : List A) → length h ≡ factorial (suc m) → length g ≡ 1 → scale A o (getD g 0 (o .zero)) h ≡ times A o q r m 0 h g
-  unfolding prod comb sum perms identity range towerOf standard cycles Rw coefficient place series factorial
+  unfolding prod comb sum perms identity range tally below len firstLetters shortestWord Rw coefficient place series factorial
   times-zero m h g e d =
       equal-elements A o (has-scale A o (has-own A o e) (getD g 0 (o .zero))) (has-times A o (has-own A o e) (omega arith) (has-own A o {m = 0} d) q r)
       (λ w p. sym (add-zero A o 𝓡 (o .mul (getD g 0 (o .zero)) (coefficient A o h w))))

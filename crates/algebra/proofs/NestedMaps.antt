@@ -1,16 +1,17 @@
--- The nested method commutes with a map of ring operations, value and count; so every definition does. Rests on Maps and lists' Blocks.
+-- The nested method commutes with a map of ring operations, value and count; so every definition does. Rests on Maps, ring's Hom and lists' Blocks.
 use mathlib.Core.Path.{_≡_, refl, sym, ap, ap₂, _∙_, fun-ext}
 use mathlib.Core.List.{List, map, map-append}
 use Prim.Native.Nat.{ℕ, zero, suc, _+_, _-_}
 use lib.ListN.{length, getD, length-map, List·getD-map}
 use Rattle.ring.specs.Ring.{Ops, Hom}
+use Rattle.ring.proofs.Hom.{hom-sum}
 use Rattle.lists.specs.Numbers.{factorial}
 use Rattle.lists.specs.Blocks.{block}
 use Rattle.lists.proofs.Blocks.{map-block}
 use Rattle.algebra.specs.Element.{plus, scale}
 use Rattle.algebra.specs.Nested.{both, Counted, free, onward, _⧺_, row, _⊞_, _⊠_, sumRow, part, level, nestedAct, nested}
 use Rattle.algebra.specs.Maps.{mapped, Maps}
-use Rattle.algebra.proofs.Maps.{map-coefficient, map-element, map-plus, map-scale, map-sumOver, map-basis, map-unit, map-T, map-minusOne, map-basisLetter, map-letter, map-act, map-times}
+use Rattle.algebra.proofs.Maps.{map-coefficient, map-element, map-plus, map-scale, map-sumOver, map-basis, map-unit, map-T, map-minusOne, map-basisLetter, map-letter, map-act, map-times, map-power, map-pairing}
 
 -- ---- rows
 
@@ -110,6 +111,7 @@ module _ {A B : Type 0} {o : Ops A} {p : Ops B} {f : A → B} (H : Hom A B o p f
 
     pub maps : Maps A B o p f q r
     maps = record {
+      sum = hom-sum A B o p f H;
       minusOne = map-minusOne H q;
       coefficient = map-coefficient H;
       element = map-element H;
@@ -123,8 +125,10 @@ module _ {A B : Type 0} {o : Ops A} {p : Ops B} {f : A → B} (H : Hom A B o p f
       letter = map-letter H q r;
       act = map-act H q r;
       times = map-times H q r;
-      sum = map-⊞;
-      multiple = map-⊠;
+      power = map-power H;
+      pairing = map-pairing H q;
+      counted-sum = map-⊞;
+      counted-multiple = map-⊠;
       sumRow = map-sumRow;
       part = λ F G e. map-part F G e;
       level = λ F G e. map-level F G e q r;

@@ -1,11 +1,13 @@
 -- The pairing by blocks: the length of u a(m + 1, k) is that of u and k, so the pairing of rank m + 1 is the sum over k of q to the power k times the
--- pairing of the blocks k. In every commutative ring, and for words. Rests on Enumeration, Order, Maps, Onto, ring's Modular and perms' Lengths.
+-- pairing of the blocks k. In every commutative ring, and for the integers modulo N ≥ 1, of which words are a case. Rests on Enumeration, Order, Maps,
+-- Onto, ring's Modular and perms' Lengths.
 --
 --   horner n P s      P(0) + q (P(1) + .. + q (P(n - 1) + q s))
 --   byBlocks m a b    that sum for a and b of rank m + 1, by Horner's rule
-use mathlib.Core.Path.{_≡_, refl, sym, ap, ap₂, _∙_, fun-ext}
+use mathlib.Core.Path.{_≡_, refl, sym, ap, ap₂, _∙_}
 use mathlib.Core.List.{List, map}
-use Prim.Native.Nat.{ℕ, zero, suc, _+_, _-_, _^_, _≤_, _<_}
+use Prim.Native.Nat.{ℕ, zero, suc, _+_, _-_, _*_, _%_, _^_, _≤_, _<_}
+use native.Mathlib.Nat.{mod-lt, mod-eq-of-lt, add-zero as add-zero-right}
 use native.Mathlib.Numerals.{unary-clauses}
 use native.Mathlib.Omega.{arith}
 use lib.ListN.{length, getD, length-append}
@@ -14,8 +16,7 @@ use Rattle.ring.specs.Sum.{sum}
 use Rattle.ring.specs.Modular.{words, modular}
 use Rattle.ring.proofs.Ring.{add-zero, mul-zero}
 use Rattle.ring.proofs.Sum.{sum-map, sum-append, sum-mul}
-use Rattle.ring.proofs.Hom.{hom-sum}
-use Rattle.ring.proofs.Modular.{words-ring, words-hom}
+use Rattle.ring.proofs.Modular.{one-mul-mod, residues-ring, number-hom, words-pos}
 use Rattle.lists.specs.Lists.{range, tally}
 use Rattle.lists.specs.Numbers.{factorial, series}
 use Rattle.lists.specs.Blocks.{block, blocks}
@@ -33,7 +34,7 @@ use Rattle.algebra.specs.Pairing.{power, pairing}
 use Rattle.algebra.proofs.Functions.{sum-all}
 use Rattle.algebra.proofs.Enumeration.{join-extend, perms-perm}
 use Rattle.algebra.proofs.Order.{coefficient-block}
-use Rattle.algebra.proofs.Maps.{map-coefficient}
+use Rattle.algebra.proofs.Maps.{map-pairing}
 use Rattle.algebra.proofs.Onto.{any, Onto, every2, elements}
 
 len-join : {m : ℕ} (k : ℕ) (u : List ℕ) → k ≤ suc m → Perm m u → len (join m k u) ≡ len u + k
@@ -98,15 +99,6 @@ module _ (A : Type 0) (o : Ops A) (𝓡 : Ring A o) (q : A) where
 -- ---- along a map of operations
 
 module _ {A B : Type 0} {o : Ops A} {p : Ops B} {f : A → B} (H : Hom A B o p f) (q : A) where
-  map-power : (n : ℕ) → f (power A o q n) ≡ power B p (f q) n
-  unfolding power
-  map-power zero = H .one
-  map-power (suc n) = H .mul q (power A o q n) ∙ ap (p .mul (f q)) (map-power n)
-
-  map-pairing : (m : ℕ) (a b : List A) → f (pairing A o q m a b) ≡ pairing B p (f q) m (map f a) (map f b)
-  unfolding pairing
-  map-pairing m a b = hom-sum A B o p f H (perms m) _ ∙ ap (sum B p (perms m)) (fun-ext (λ w. simp (H .mul, map-power, map-coefficient H)))
-
   map-horner : (n : ℕ) (P : ℕ → A) (s : A) → f (horner A o q n P s) ≡ horner B p (f q) n (λ k. f (P k)) (f s)
   unfolding horner
   map-horner zero P s = refl
@@ -116,14 +108,27 @@ module _ {A B : Type 0} {o : Ops A} {p : Ops B} {f : A → B} (H : Hom A B o p f
   module _ (𝓡 : Ring A o) {ok : B → Type 0} (s : Onto f any ok) (m : ℕ) where
     carry-blocks : (a b : List B) → Element ok (suc m) a → Element ok (suc m) b → pairing B p (f q) (suc m) a b ≡ byBlocks B p (f q) m a b
     carry-blocks = every2 (elements s (suc m)) (elements s (suc m)) _ (λ a b _ _.
-        simp (map-pairing, map-horner, map-block f, H .zero) at (ap f (pairing-blocks A o 𝓡 q m a b)))
+        simp (map-pairing H q, map-horner, map-block f, H .zero) at (ap f (pairing-blocks A o 𝓡 q m a b)))
+
+-- ---- the integers modulo N
+
+module _ (N : ℕ) (pos : 0 < N) where
+  pub modular-pairing-zero : (q : ℕ) (a b : List ℕ) → pairing ℕ (modular N) q 0 a b ≡ modular N .mul (getD a 0 0) (getD b 0 0)
+  unfolding pairing perms identity range len below tally place series coefficient sum power modular
+  modular-pairing-zero q a b =
+      let x = getD a 0 0 * getD b 0 0 % N in
+      let less : x < N = mod-lt (getD a 0 0 * getD b 0 0) pos in
+      ap (λ y. (y + 0) % N) (one-mul-mod N x ∙ mod-eq-of-lt less) ∙ ap (λ y. y % N) (add-zero-right x) ∙ mod-eq-of-lt less
+
+  pub modular-pairing-blocks : (q m : ℕ) → q < N → (a b : List ℕ) → Element (λ n. n < N) (suc m) a → Element (λ n. n < N) (suc m) b
+      → pairing ℕ (modular N) q (suc m) a b ≡ byBlocks ℕ (modular N) q m a b
+  modular-pairing-blocks q m h = carry-blocks (number-hom N pos) (q, h) (residues-ring N pos) (λ n l. record { of = (n, l); fit = tt; is = refl }) m
 
 -- ---- words
 
 pub word-pairing-zero : (q : ℕ) (a b : List ℕ) → pairing ℕ words q 0 a b ≡ words .mul (getD a 0 0) (getD b 0 0)
-unfolding pairing perms identity range len below tally place series coefficient sum power modular
-word-pairing-zero q a b = omega arith
+word-pairing-zero = modular-pairing-zero (2 ^ 64) words-pos
 
 pub word-pairing-blocks : (q m : ℕ) → q < 2 ^ 64 → (a b : List ℕ) → Element (λ n. n < 2 ^ 64) (suc m) a → Element (λ n. n < 2 ^ 64) (suc m) b
     → pairing ℕ words q (suc m) a b ≡ byBlocks ℕ words q m a b
-word-pairing-blocks q m h = carry-blocks words-hom (q, h) words-ring (λ n l. record { of = (n, l); fit = tt; is = refl }) m
+word-pairing-blocks = modular-pairing-blocks (2 ^ 64) words-pos

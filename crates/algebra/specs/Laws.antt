@@ -100,6 +100,9 @@ module _ (A : Type 0) (o : Ops A) (q r : A) (ok : A → Type 0) (m : ℕ) (calls
     -- x and y are shortest words of w
     pub alike : (w x y : List ℕ) → Shortest m x w → Shortest m y w → (h : List A) → E h → calls .act x h ≡ calls .act y h
     pub acts : (w x : List ℕ) → Shortest m x w → (h : List A) → E h → calls .act x h ≡ h · basis A o m w
+    -- x v is any shortest word of v
+    pub by-words : (x : List ℕ → List ℕ) → ((v : List ℕ) → Perm m v → Shortest m (x v) v) → (h g : List A) → E h → E g
+        → h · g ≡ sumOver A o m (perms m) (λ v. coefficient A o g v ⊙ calls .act (x v) h)
 
   pub record Hecke : Type 0 where
     pub minus-one : o .add r (o .one) ≡ q

@@ -2,19 +2,22 @@
 --
 --   mapped f x        the list of x mapped, with the count of x
 --   Maps              the map f from A to B takes each definition over the operations o to that over p. This holds where f takes o to p (`Hom`).
---                     The fields bear the names of the definitions; `sum` and `multiple` are ⊞ and ⊠
+--                     The fields bear the names of the definitions; `counted-sum` and `counted-multiple` are ⊞ and ⊠
 use mathlib.Core.Path.{_≡_}
 use mathlib.Core.List.{List, map}
 use Prim.Native.Nat.{ℕ}
 use Rattle.ring.specs.Ring.{Ops}
+use Rattle.ring.specs.Sum.{sum}
 use Rattle.algebra.specs.Element.{coefficient, element, plus, scale, sumOver, basis, unit, T}
 use Rattle.algebra.specs.Product.{minusOne, basisLetter, letter, act, times}
 use Rattle.algebra.specs.Nested.{Counted, _⊞_, _⊠_, sumRow, part, level, nestedAct, nested}
+use Rattle.algebra.specs.Pairing.{power, pairing}
 
 unfoldable pub mapped : {A B : Type 0} → (A → B) → Counted A → Counted B
 mapped f x = record { value = map f (x .value); count = x .count }
 
 pub record Maps (A B : Type 0) (o : Ops A) (p : Ops B) (f : A → B) (q r : A) : Type 1 where
+  pub sum : {D : Type 0} (s : List D) (g : D → A) → f (sum A o s g) ≡ sum B p s (λ x. f (g x))
   pub minusOne : f (minusOne A o q) ≡ minusOne B p (f q)
   pub coefficient : (h : List A) (w : List ℕ) → f (coefficient A o h w) ≡ coefficient B p (map f h) w
   pub element : (m : ℕ) (F : List ℕ → A) → map f (element A o m F) ≡ element B p m (λ w. f (F w))
@@ -28,8 +31,10 @@ pub record Maps (A B : Type 0) (o : Ops A) (p : Ops B) (f : A → B) (q r : A) :
   pub letter : (m i : ℕ) (h : List A) → map f (letter A o q r m i h) ≡ letter B p (f q) (f r) m i (map f h)
   pub act : (m : ℕ) (x : List ℕ) (h : List A) → map f (act A o q r m x h) ≡ act B p (f q) (f r) m x (map f h)
   pub times : (m l : ℕ) (h g : List A) → map f (times A o q r m l h g) ≡ times B p (f q) (f r) m l (map f h) (map f g)
-  pub sum : (x y : Counted A) → mapped f (_⊞_ A o x y) ≡ _⊞_ B p (mapped f x) (mapped f y)
-  pub multiple : (c : A) (x : Counted A) → mapped f (_⊠_ A o c x) ≡ _⊠_ B p (f c) (mapped f x)
+  pub power : (x : A) (n : ℕ) → f (power A o x n) ≡ power B p (f x) n
+  pub pairing : (m : ℕ) (a b : List A) → f (pairing A o q m a b) ≡ pairing B p (f q) m (map f a) (map f b)
+  pub counted-sum : (x y : Counted A) → mapped f (_⊞_ A o x y) ≡ _⊞_ B p (mapped f x) (mapped f y)
+  pub counted-multiple : (c : A) (x : Counted A) → mapped f (_⊠_ A o c x) ≡ _⊠_ B p (f c) (mapped f x)
   pub sumRow : (a n : ℕ) (x : ℕ → Counted A) → mapped f (sumRow A o a n x) ≡ sumRow B p a n (λ i. mapped f (x i))
   pub part : (F : ℕ → ℕ → List A → Counted A) (G : ℕ → ℕ → List B → Counted B) → ((j l : ℕ) (x : List A) → mapped f (F j l x) ≡ G j l (map f x))
       → (m j : ℕ) (h : List A) (i : ℕ) → mapped f (part A o F m j h i) ≡ part B p G m j (map f h) i

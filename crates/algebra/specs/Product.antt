@@ -4,14 +4,14 @@
 --   basisLetter m i w   T_w T_s for s = s_i, by formula 3.1: T_ws where ws is longer than w, else (q - 1) T_w + q T_ws
 --   letter m i h        h T_s for s = s_i, by formula 4.1: its coefficient at w is q h_ws where ws is longer than w, else h_ws + (q - 1) h_w
 --   act m x h           h acted on by the word x, its letters left to right (4.3)
---   times m l h g       h g for h of rank m and g of rank l ≤ m: the sum over all v of g_v h T_v, where T_v acts through v's standard word (4.4)
+--   times m l h g       h g for h of rank m and g of rank l ≤ m: the sum over all v of g_v h T_v, where T_v acts through a shortest word of v (4.4)
 use mathlib.Core.Bool.{cond}
 use mathlib.Core.List.{List, [], _∷_}
 use Prim.Native.Nat.{ℕ}
 use Rattle.ring.specs.Ring.{Ops}
 use Rattle.lists.specs.Lists.{less}
 use Rattle.perms.specs.Permutation.{product, generator, len}
-use Rattle.perms.specs.Tower.{towerOf, standard}
+use Rattle.perms.specs.ShortestWord.{shortestWord}
 use Rattle.algebra.specs.Place.{perms}
 use Rattle.algebra.specs.Element.{coefficient, element, plus, scale, sumOver, basis}
 
@@ -35,4 +35,4 @@ module _ (A : Type 0) (o : Ops A) where
     act m (i ∷ x) h = act m x (letter m i h)
 
     unfoldable pub times : ℕ → ℕ → List A → List A → List A
-    times m l h g = sumOver A o m (perms l) (λ v. scale A o (coefficient A o g v) (act m (standard (towerOf v)) h))
+    times m l h g = sumOver A o m (perms l) (λ v. scale A o (coefficient A o g v) (act m (shortestWord l v) h))

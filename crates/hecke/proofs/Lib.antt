@@ -1,12 +1,19 @@
 -- lists and their parts
 mod Sums
 mod Exchange
--- the action of T_a(j,l) and of a word
-mod Pieces
-mod Middle
-mod Act
+mod Lowered
+mod Moved
+mod InRow
+mod Cuts
+-- one letter, and a word
 mod LowRanks
-mod Letters
+mod LetterCut
+mod WordAction
+-- the action of T_a(j,l)
+mod Pieces
+mod Levels
+mod Middle
+mod RankTwo
 -- the product
 mod Layers
 mod Summands

@@ -1,81 +1,71 @@
--- One letter on an element of rank 1 is an exchange of two words; on one of rank 2 it is two exchanges, one of two words and one of two blocks of 2
--- words. Rests on Pieces, Middle and Act, and lists' Parts.
-use mathlib.Core.Path.{_≡_, refl, sym, ap, _∙_}
-use mathlib.Core.List.{List, [], _++_, append-nil}
-use Prim.Native.Nat.{ℕ, suc, _-_, _≤_}
+-- An operator on pairs of coefficients, on elements of rank 1 and 2, by the exchanges that are made, and on blocks of rank 2. For any operations o and
+-- any operator f. Rests on InRow and algebra's LowRanks.
+use mathlib.Core.Path.{_≡_, sym, ap, _∙_}
+use mathlib.Core.List.{List}
+use Prim.Native.Nat.{ℕ, suc, _*_, _-_}
 use native.Mathlib.Omega.{arith}
-use lib.ListN.{length, take, drop, length-drop}
-use lib.Seq.{take-all, length-take-le}
-use borrow.Rule.Slice.PartMut.{putMid, same-len-mid}
+use lib.ListN.{length, take}
+use borrow.Rule.Slice.PartMut.{midOf, putMid}
+use Rattle.ring.specs.Ring.{Ops}
 use Rattle.lists.specs.Numbers.{factorial}
 use Rattle.lists.specs.Blocks.{block, blocks}
-use Rattle.lists.proofs.Parts.{whole-block, front-put, rest-put}
-use Rattle.hecke.specs.Steps.{acted, turned, ActPre}
-use Rattle.hecke.proofs.Pieces.{block-take, turned-cong, act-pieces}
-use Rattle.hecke.proofs.Middle.{swapped, exchanged-one}
-use Rattle.hecke.proofs.Act.{after-first}
+use Rattle.perms.specs.Permutation.{Letter}
+use Rattle.algebra.specs.Pairs.{OnPair, onPairs, exchanged}
+use Rattle.algebra.proofs.LowRanks.{rank-one, rank-two-1, rank-two-2}
+use Rattle.hecke.specs.Steps.{LetterPre, EachLetterPre}
+use Rattle.hecke.proofs.InRow.{both-back}
 
-pub rank-one-size : {m j : ℕ} {x : List ℕ} → m ≡ 1 → ActPre m j 1 x [] → length x ≡ 2
+-- ---- sizes
+
+pub rank-one-size : {m j : ℕ} {x : List ℕ} → m ≡ 1 → LetterPre m j x → length x ≡ 2
 unfolding factorial
-rank-one-size e p = p .words ∙ ap (λ (n : ℕ). factorial (suc n)) e
+rank-one-size e p = p .size ∙ ap (λ (n : ℕ). factorial (suc n)) e
 
-pub rank-two-size : {j : ℕ} {x : List ℕ} → ActPre 2 j 1 x [] → length x ≡ 6
+pub rank-two-size : {j : ℕ} {x : List ℕ} → LetterPre 2 j x → length x ≡ 6
 unfolding factorial
-rank-two-size p = p .words
+rank-two-size p = p .size
 
--- ---- two parts in a row, of which the first came back as v₁
+pub rank-two-blocks : {m b n j : ℕ} {x : List ℕ} → m ≡ 2 → EachLetterPre m b n j x → b ≡ 6
+unfolding factorial
+rank-two-blocks e p = p .block-size ∙ ap (λ (k : ℕ). factorial (suc k)) e
 
-module _ (at : ℕ) (x v₁ : List ℕ) (h : at ≤ length x) (s₁ : length v₁ ≡ length (take (at - 0) x)) where
-  abbrev x₁ : List ℕ
-  x₁ = putMid 0 (at - 0) x v₁
+pub rank-two-pre : {m b n j : ℕ} {x : List ℕ} → m ≡ 2 → EachLetterPre m b n j x → EachLetterPre 2 6 n j x
+unfolding factorial
+rank-two-pre {m} {b} {n} {j} e p = record {
+  rank = omega arith;
+  block-size = omega arith;
+  letter = λ h. let l : Letter m j = p .letter h in record { low = l .low; high = omega (arith, l .high) };
+  size = p .size ∙ ap (λ (k : ℕ). n * k) (rank-two-blocks e p);
+}
 
-  pub same-size : length x₁ ≡ length x
-  same-size = same-len-mid 0 (at - 0) x v₁ s₁
-
-  second-part : take (length x₁ - at) (drop at x₁) ≡ drop at x
-  second-part =
-      take-all (length x₁ - at) (drop at x₁) (rw length-drop (omega arith))
-      ∙ after-first at x v₁ h (s₁ ∙ length-take-le (at - 0) x (omega arith) ∙ omega arith)
-
-  pub second-size : length (take (length x₁ - at) (drop at x₁)) ≡ length x - at
-  second-size = ap length second-part ∙ length-drop at x
-
-  -- each part came back with its two halves exchanged
-  pub both-exchanged : (q r b₁ b₂ : ℕ) {v₂ : List ℕ} → v₁ ≡ swapped q r b₁ (take (at - 0) x) → v₂ ≡ swapped q r b₂ (take (length x₁ - at) (drop at x₁))
-      → putMid at (length x₁ - at) x₁ v₂ ≡ swapped q r b₁ (take (at - 0) x) ++ swapped q r b₂ (drop at x)
-  both-exchanged q r b₁ b₂ {v₂} e₁ e₂ =
-      rest-put at x₁ v₂ ∙ ap (λ (p : List ℕ). p ++ v₂) (front-put at x v₁ _ refl h s₁)
-      ∙ (λ i. e₁ i ++ (e₂ ∙ ap (swapped q r b₂) second-part) i)
-
-module _ (q r : ℕ) where
+module _ (o : Ops ℕ) (f : OnPair ℕ) where
   -- ---- rank 1
 
-  one-exchange : (y : List ℕ) → length y ≡ 2 → swapped q r 1 y ≡ acted q r 1 1 1 y
-  unfolding blocks factorial
-  one-exchange y e =
-      exchanged-one q r 0 1 1 y e ∙ sym (act-pieces q r 1 1 1 1 y (omega arith) (omega arith) refl ∙ append-nil (turned q r 0 1 1 1 y))
+  pub exchanged-one : {m j : ℕ} {x v : List ℕ} → m ≡ 1 → LetterPre m j x → v ≡ exchanged f 1 x → v ≡ onPairs ℕ o f m j x
+  exchanged-one {m} {j} {x} e p h =
+      let one : 1 ≡ j = omega (arith, p .letter .low, p .letter .high) in
+      h ∙ sym (rank-one ℕ o f x (rank-one-size e p)) ∙ (λ i. onPairs ℕ o f (sym e i) (one i) x)
 
-  pub letter-rank-one : {m j : ℕ} {x v : List ℕ} → m ≡ 1 → ActPre m j 1 x [] → v ≡ swapped q r 1 x → v ≡ acted q r m j 1 x
-  letter-rank-one {m} {j} {x} e p h =
-      let one : 1 ≡ j = omega (arith, p .below, p .within) in
-      h ∙ one-exchange x (rank-one-size e p) ∙ (λ i. acted q r (sym e i) (one i) 1 x)
+  -- ---- rank 2: the first exchange left v₁, the second v₂
 
-  -- ---- rank 2, letters 1 and 2
+  module _ {j : ℕ} {x : List ℕ} (p : LetterPre 2 j x) (v₁ : List ℕ) {v₂ : List ℕ} where
+    pub exchanged-two-1 : j ≡ 1 → length v₁ ≡ length (take 2 x) → v₁ ≡ exchanged f 1 (take 2 x)
+        → let y = putMid 0 2 x v₁ in v₂ ≡ exchanged f 2 (midOf 2 (length y - 2) y) → putMid 2 (length y - 2) y v₂ ≡ onPairs ℕ o f 2 j x
+    exchanged-two-1 e s e₁ e₂ =
+        let size = rank-two-size p in
+        both-back 2 x v₁ (omega (arith, size)) s (exchanged f 1) (exchanged f 2) e₁ e₂
+        ∙ sym (rank-two-1 ℕ o f x size) ∙ ap (λ (i : ℕ). onPairs ℕ o f 2 i x) (sym e)
 
-  module _ (x : List ℕ) (size : length x ≡ 6) where
-    pub two-exchanges-1 : swapped q r 1 (take 2 x) ++ swapped q r 2 (drop 2 x) ≡ acted q r 2 1 1 x
-    unfolding block blocks factorial
-    two-exchanges-1 =
-        (λ i. one-exchange (take 2 x) (length-take-le 2 x (omega arith)) i ++ exchanged-one q r 1 2 1 (drop 2 x) (length-drop 2 x ∙ omega arith) i)
-        ∙ sym (act-pieces q r 2 1 1 2 x (omega arith) (omega arith) refl
-        ∙ ap (λ (y : List ℕ). acted q r 1 1 1 (take 2 x) ++ y) (append-nil (turned q r 1 2 1 1 (drop 2 x))))
+    pub exchanged-two-2 : 2 ≡ j → length v₁ ≡ length (take 4 x) → v₁ ≡ exchanged f 2 (take 4 x)
+        → let y = putMid 0 4 x v₁ in v₂ ≡ exchanged f 1 (midOf 4 (length y - 4) y) → putMid 4 (length y - 4) y v₂ ≡ onPairs ℕ o f 2 j x
+    exchanged-two-2 e s e₁ e₂ =
+        let size = rank-two-size p in
+        both-back 4 x v₁ (omega (arith, size)) s (exchanged f 2) (exchanged f 1) e₁ e₂
+        ∙ sym (rank-two-2 ℕ o f x size) ∙ ap (λ (i : ℕ). onPairs ℕ o f 2 i x) e
 
-    pub two-exchanges-2 : swapped q r 2 (take 4 x) ++ swapped q r 1 (drop 4 x) ≡ acted q r 2 2 1 x
-    unfolding blocks factorial
-    two-exchanges-2 =
-        let rest : length (drop 4 x) ≡ 2 = length-drop 4 x ∙ omega arith in
-        let low : swapped q r 2 (take 4 x) ≡ turned q r 1 2 2 1 x =
-        exchanged-one q r 1 2 2 (take 4 x) (length-take-le 4 x (omega arith))
-        ∙ turned-cong q r 1 2 2 1 (take 4 x) x (omega arith) (λ i h. block-take 2 i 4 x (omega arith) (omega arith)) in
-        (λ i. low i ++ (one-exchange (drop 4 x) rest ∙ ap (acted q r 1 1 1) (sym (whole-block 2 (drop 4 x) rest))) i)
-        ∙ sym (act-pieces q r 2 2 1 2 x (omega arith) (omega arith) refl)
+  -- ---- blocks of rank 2
+
+  pub blocks-two : {m b n j : ℕ} {x v : List ℕ} → m ≡ 2 → EachLetterPre m b n j x → v ≡ blocks n (λ k. onPairs ℕ o f 2 j (block 6 k x))
+      → v ≡ blocks n (λ k. onPairs ℕ o f m j (block b k x))
+  blocks-two {m} {b} {n} {j} {x} e p h =
+      h ∙ (λ i. blocks n (λ k. onPairs ℕ o f (sym e i) j (block (sym (rank-two-blocks e p) i) k x)))

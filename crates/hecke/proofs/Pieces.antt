@@ -1,5 +1,5 @@
 -- One level of the nested method as three parts of x: the blocks below m - j, the blocks from there to m - j + l, which depend on one another in the result,
--- and the blocks above. Rests on Sums, algebra's Level, NestedLetter and PairLists, and lists' Blocks.
+-- and the blocks above. Rests on Sums and Cuts, algebra's Level, NestedLetter and PairLists, and lists' Blocks.
 --
 --   pieces p d b a j l x   the three parts, of blocks of rank d and b words, of which the second is from block a on
 use mathlib.Core.Path.{_≡_, sym, ap, ap₂, _∙_}
@@ -8,7 +8,6 @@ use Prim.Native.Nat.{ℕ, zero, suc, _+_, _*_, _-_, _≤_, zero-le}
 use native.Mathlib.Nat.{add-mul, mul-le-mul-right}
 use native.Mathlib.Omega.{arith}
 use lib.ListN.{length, take, drop, length-drop}
-use lib.Seq.{take-add, take-take, drop-at, length-take-le}
 use Rattle.lists.specs.Numbers.{factorial}
 use Rattle.lists.specs.Blocks.{block, blocks}
 use Rattle.lists.proofs.Blocks.{blocks-cong}
@@ -22,18 +21,7 @@ use Rattle.element_calls.specs.declared.Parameters.{Parameters}
 use Rattle.element_calls.specs.Coefficients.{ring}
 use Rattle.hecke.specs.Steps.{sums, acted, kept, joint}
 use Rattle.hecke.proofs.Sums.{sums-cong, sumRow-sums}
-
--- ---- the blocks of a part
-
-pub block-take : (b k n : ℕ) (x : List ℕ) → k * b + b ≤ n → n ≤ length x → block b k (take n x) ≡ block b k x
-unfolding block
-block-take b k n x h g =
-    let at = k * b in
-    let e : n ≡ at + (n - at) = omega arith in
-    ap (λ (p : ℕ). take b (drop at (take p x))) e
-    ∙ ap (λ (y : List ℕ). take b (drop at y)) (take-add at (n - at) x)
-    ∙ ap (take b) (drop-at (take at x) (take (n - at) (drop at x)) at (length-take-le at x (omega arith)))
-    ∙ take-take b (n - at) (drop at x) (omega arith)
+use Rattle.hecke.proofs.Cuts.{block-take}
 
 -- ---- the blocks of the second part depend on these blocks alone
 

@@ -1,13 +1,14 @@
 -- Every row of the table of marked cases holds, by computation.
 use mathlib.Core.Path.{refl}
 use Rattle.ring.specs.Modular.{modular, words}
-use Rattle.lists.specs.Lists.{All, same, less, range, tally}
+use Rattle.lists.specs.Lists.{All, same, less, range, first, tally}
 use Rattle.lists.specs.Numbers.{factorial, series}
 use Rattle.lists.specs.Blocks.{block, blocks}
 use Rattle.lists.specs.Overwrite.{overwrite}
 use Rattle.refusals.specs.Refusals.{ended}
-use Rattle.perms.specs.Permutation.{product, identity, swap, generator, ofWord, below, len}
-use Rattle.perms.specs.Tower.{above, entry, towerOf, cycle, cycles, standard, ofCycles, imagesOf}
+use Rattle.perms.specs.Permutation.{product, identity, swap, generator, ofWord, below, len, descent}
+use Rattle.perms.specs.Tower.{above, entry, towerOf, cycle, ofCycles, imagesOf}
+use Rattle.perms.specs.ShortestWord.{firstLetters, shortestWord}
 use Rattle.algebra.specs.Place.{place, join, perms}
 use Rattle.algebra.specs.Element.{coefficient, element, plus, scale, sumOver, basis, unit}
 use Rattle.algebra.specs.Product.{minusOne, letter, act, times}
@@ -25,8 +26,8 @@ use Rattle.output.specs.Printed.{text, texts, printed}
 use Rattle.marked.specs.Table.{Holds, table}
 
 pub marked : All Holds table
-unfolding modular same less range tally product identity swap generator ofWord below len above entry towerOf cycle cycles standard
-    ofCycles imagesOf factorial series block blocks place join perms coefficient element plus scale sumOver basis unit minusOne letter
+unfolding modular same less range first tally product identity swap generator ofWord below len above entry towerOf cycle ofCycles
+    imagesOf descent firstLetters shortestWord factorial series block blocks place join perms coefficient element plus scale sumOver basis unit minusOne letter
     act times operations both free onward _⧺_ row _⊞_ _⊠_ sumRow part level nestedAct nested cLine c C rankVerdict size sizeVerdict needed scratchSize scratchVerdict
     productCall byte number width known command decode rank parameter isEnd inOrder isRegister operandsInRange inRange placedFrom placed firstRefusal
     checkSheet register register-element overwrite zeros obey cost obeyAll commands runSheet digits decimal pairLine line taggedPair coefficients text

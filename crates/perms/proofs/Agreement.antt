@@ -3,8 +3,9 @@ use mathlib.Core.Path.{_≡_, refl}
 use mathlib.Core.List.{map}
 use lib.ListN.{length}
 use Rattle.lists.specs.Lists.{same, less, range, first, tally}
-use Rattle.perms.specs.Permutation.{product, identity, inverse, swap, generator, below, len, ofWord}
-use Rattle.perms.specs.Tower.{above, entry, towerOf, cycle, cycles, standard, ofCycles, imagesOf, total, descent, mask}
+use Rattle.perms.specs.Permutation.{product, identity, inverse, swap, generator, below, len, descent, ofWord}
+use Rattle.perms.specs.Tower.{above, entry, towerOf, cycle, cycles, standard, ofCycles, imagesOf, total, mask}
+use Rattle.perms.specs.ShortestWord.{firstLetters, shortestWord}
 use Rattle.perms.proofs.Vectors.{vectors, pairs}
 
 pub products : map (λ p. product (p .left) (p .right)) pairs ≡ map (λ p. p .product) pairs
@@ -42,3 +43,11 @@ tower-images = refl
 pub descent-masks : map (λ v. let m = length (v .tower) in mask (descent m (v .images)) m) vectors ≡ map (λ v. v .descents) vectors
 unfolding same less range tally product identity swap generator below len descent mask
 descent-masks = refl
+
+pub shortest-images : map (λ v. let m = length (v .tower) in ofWord m (shortestWord m (v .images))) vectors ≡ map (λ v. v .images) vectors
+unfolding same less range first tally product identity swap generator below len descent ofWord firstLetters shortestWord
+shortest-images = refl
+
+pub shortest-lengths : map (λ v. length (shortestWord (length (v .tower)) (v .images))) vectors ≡ map (λ v. v .length) vectors
+unfolding same less range first tally product identity swap generator below len descent firstLetters shortestWord
+shortest-lengths = refl

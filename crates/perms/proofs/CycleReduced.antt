@@ -27,7 +27,7 @@ ascends-cycle m (suc j) (suc k) u p h n = (
 )
 
 -- one more point, which is fixed
-ascends-extend : (m : ℕ) (x w : List ℕ) → Ascends m x w → Ascends (suc m) x (extend (m + 2) w)
+pub ascends-extend : (m : ℕ) (x w : List ℕ) → Ascends m x w → Ascends (suc m) x (extend (m + 2) w)
 ascends-extend m [] w c = tt
 ascends-extend m (i ∷ x) w c = let l : Letter m i = c .0 in (
   record { low = l .low; high = omega arith },

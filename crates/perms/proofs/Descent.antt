@@ -11,8 +11,8 @@ use lib.Seq.{take-suc}
 use Rattle.lists.specs.Lists.{less, bit, tally}
 use Rattle.lists.proofs.Test.{LessView, lt, ge, less?, less-yes, less-no, less-true}
 use Rattle.lists.proofs.Tally.{tally-append, tally-mono}
-use Rattle.perms.specs.Permutation.{Perm, len, Letter}
-use Rattle.perms.specs.Tower.{above, entry, towerOf, Tower, imagesOf, descent}
+use Rattle.perms.specs.Permutation.{Perm, len, descent, Letter}
+use Rattle.perms.specs.Tower.{above, entry, towerOf, Tower, imagesOf}
 use Rattle.perms.specs.Laws.{at}
 use Rattle.perms.proofs.Perm.{swapAt, lft}
 use Rattle.perms.proofs.Products.{generator-product}

@@ -28,6 +28,8 @@ pub mod Tower
 pub mod Standard
 pub mod ImagesOf
 pub mod Lengths
+pub mod ShortestWord
+pub mod HigherRank
 pub mod Descent
 pub mod Towers
 pub mod Mask

@@ -11,8 +11,8 @@ use mathlib.Core.Bool.{true}
 use mathlib.Core.List.{List, _∷_}
 use Prim.Native.Nat.{ℕ, pred, _+_, _-_, _≤_, _<_}
 use lib.ListN.{getD}
-use Rattle.perms.specs.Permutation.{Perm, product, identity, inverse, generator, len, Letter, ofWord, Shortest}
-use Rattle.perms.specs.Tower.{towerOf, Tower, cycle, standard, imagesOf, total, descent}
+use Rattle.perms.specs.Permutation.{Perm, product, identity, inverse, generator, len, descent, Letter, ofWord, Shortest}
+use Rattle.perms.specs.Tower.{towerOf, Tower, cycle, standard, imagesOf, total}
 
 pub record Group (m : ℕ) : Type 0 where
   pub product-perm : (u v : List ℕ) → Perm m u → Perm m v → Perm m (product u v)

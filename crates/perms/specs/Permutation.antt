@@ -9,12 +9,13 @@
 --   generator m i   s_i as a permutation of rank m
 --   below x w       how many elements of w are below x
 --   len w           the length: pairs of points i < j whose images stand in falling order
+--   descent m w i   the test whether s_i is in the descent set of w: ℓ(s_i w) < ℓ(w)
 --   Letter m i      i is from 1 to m, and names s_i
 --   Word m x        x is a list of letters
 --   ofWord m x      the product of the generators that x names, left to right
 --   Shortest m x w  x is a shortest word (reduced word) of w
 use mathlib.Core.Path.{_≡_}
-use mathlib.Core.Bool.{cond}
+use mathlib.Core.Bool.{Bool, cond}
 use mathlib.Core.List.{List, [], _∷_, map}
 use Prim.Native.Nat.{ℕ, suc, pred, _+_, _≤_, _<_}
 use lib.ListN.{length, getD}
@@ -46,7 +47,7 @@ swap i v = cond (same v i) (suc i) (cond (same v (suc i)) i v)
 unfoldable pub generator : ℕ → ℕ → List ℕ
 generator m i = map (swap i) (identity m)
 
--- ---- length
+-- ---- length and descents
 
 unfoldable pub below : ℕ → List ℕ → ℕ
 below x w = tally (λ y. less y x) w
@@ -54,6 +55,9 @@ below x w = tally (λ y. less y x) w
 unfoldable pub len : List ℕ → ℕ
 len [] = 0
 len (x ∷ w) = below x w + len w
+
+unfoldable pub descent : ℕ → List ℕ → ℕ → Bool
+descent m w i = less (len (product (generator m i) w)) (len w)
 
 -- ---- words
 

@@ -1,4 +1,4 @@
--- Towers (document 01's word for inversion tables), standard words and descents (document 01, "Permutations and towers").
+-- Towers (document 01's word for inversion tables), standard words and masks (document 01, "Permutations and towers"). Passes on `descent`.
 --
 --   above x w       how many elements of w exceed x
 --   entry j w       a_j: how many points before j + 1 have an image that exceeds that of j + 1
@@ -10,7 +10,6 @@
 --   ofCycles m j t  the product of a(j, b_1), a(j + 1, b_2), .. as permutations of rank m
 --   imagesOf t      the permutation of a tower: the product of a(1, a_1) to a(m, a_m)
 --   total t         the sum of the entries
---   descent m w i   the test whether s_i is in the descent set of w: ℓ(s_i w) < ℓ(w)
 --   mask p m        the numbers i from 1 to m at which p holds, as a mask with i at bit i - 1
 --   number p m      how many they are
 use mathlib.Core.Path.{_≡_}
@@ -19,7 +18,8 @@ use mathlib.Core.List.{List, [], _∷_, _++_, map}
 use Prim.Native.Nat.{ℕ, zero, suc, pred, _+_, _*_, _^_, _≤_}
 use lib.ListN.{length, getD, take}
 use Rattle.lists.specs.Lists.{less, bit, tally, range}
-use Rattle.perms.specs.Permutation.{image, product, identity, generator, len, ofWord}
+use Rattle.perms.specs.Permutation.{image, product, identity, ofWord}
+pub use Rattle.perms.specs.Permutation.{descent}
 
 unfoldable pub above : ℕ → List ℕ → ℕ
 above x w = tally (λ y. less x y) w
@@ -56,9 +56,6 @@ imagesOf t = ofCycles (length t) 1 t
 unfoldable pub total : List ℕ → ℕ
 total [] = 0
 total (a ∷ t) = a + total t
-
-unfoldable pub descent : ℕ → List ℕ → ℕ → Bool
-descent m w i = less (len (product (generator m i) w)) (len w)
 
 unfoldable pub mask : (ℕ → Bool) → ℕ → ℕ
 mask p zero = 0

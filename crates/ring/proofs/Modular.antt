@@ -36,7 +36,7 @@ module _ (N : ℕ) where
   mul-assoc-mod : (a b c : ℕ) → a * b % N * c % N ≡ a * (b * c % N) % N
   mul-assoc-mod a b c = mul-mod-left (a * b) c ∙ reduced (mul-assoc a b c) ∙ sym (mul-mod-right a (b * c))
 
-  one-mul-mod : (a : ℕ) → 1 % N * a % N ≡ a % N
+  pub one-mul-mod : (a : ℕ) → 1 % N * a % N ≡ a % N
   one-mul-mod a = mul-mod-left 1 a ∙ reduced (one-mul a)
 
   mul-add-mod : (a b c : ℕ) → a * ((b + c) % N) % N ≡ (a * b % N + a * c % N) % N

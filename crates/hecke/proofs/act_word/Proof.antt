@@ -1,4 +1,5 @@
--- The rank, the element and the word are judged; then the letters act.
+-- The rank, the element and the word are judged; then the letters act. Rests on refusals' Verdicts and Ended, ranks' Sizes, and element_calls' Verdicts and
+-- Calls.
 use mathlib.Core.Path.{_≡_, sym, ap, _∙_}
 use mathlib.Core.List.{List}
 use Prim.Native.Nat.{ℕ, suc, _*_, _/_, _^_, _≤_, _<_}
@@ -6,15 +7,16 @@ use native.Mathlib.Nat.{mul-le-mul-right}
 use native.Mathlib.Omega.{arith}
 use borrow.Author.Needs.{needs}
 use lib.ListN.{length}
-use Rattle.ring.specs.Modular.{words}
 use Rattle.lists.specs.Numbers.{factorial}
 use Rattle.refusals.specs.Refusals.{_then_, refused}
 use Rattle.refusals.specs.declared.Verdict.the-variants.{Accepted}
 use Rattle.refusals.proofs.Verdicts.{accepts-first, accepts-next, both}
 use Rattle.refusals.proofs.Ended.{ended-refused}
 use Rattle.perms.specs.Permutation.{Word}
-use Rattle.algebra.specs.Product.{minusOne, act}
+use Rattle.algebra.specs.Product.{act}
 use Rattle.ranks.proofs.Sizes.{size-small}
+use Rattle.element_calls.specs.declared.Parameters.{Parameters}
+use Rattle.element_calls.specs.Coefficients.{ring, parametersOf}
 use Rattle.element_calls.specs.Calls.{rankVerdict, sizeVerdict, wordVerdict, actWordCall}
 use Rattle.element_calls.proofs.Verdicts.{one-accepted, word-accepted}
 use Rattle.element_calls.proofs.Calls.{write-done}
@@ -35,15 +37,28 @@ taken m x h e =
     let two = word-accepted m x (accepts-next first (wordVerdict m x) e) in
     record { rank = one .0; element = one .1; word = two .0; few = two .1 }
 
-letters-act : {r : ℕ} {y : List ℕ} (m q : ℕ) (x h : List ℕ) → y ≡ act ℕ words q r m x h → r ≡ minusOne ℕ words q
-    → y ≡ act ℕ words q (minusOne ℕ words q) m x h
-letters-act m q x h e d = e ∙ ap (λ r. act ℕ words q r m x h) d
+letters-act : {p : Parameters} {y : List ℕ} (m q : ℕ) (x h : List ℕ) → y ≡ act ℕ (ring p) (p .q) (p .r) m x h → p ≡ parametersOf q
+    → let p′ = parametersOf q in y ≡ act ℕ (ring p′) (p′ .q) (p′ .r) m x h
+letters-act m q x h e d = e ∙ ap (λ (p : Parameters). act ℕ (ring p) (p .q) (p .r) m x h) d
 
 few : (n k : ℕ) → n ≤ 4096 → k ≤ 7560 → n * k < 2 ^ 64
 few n k a b = let l : n * k ≤ 4096 * k = mul-le-mul-right k a in omega arith
 
+-- ---- places: the checks, where they refuse and where they accept, and the action
+
 abbrev start : tie.After-then2 → tie.Start
 start c = c .before .before .before .before .before .before .before
+
+abbrev refusing : tie.After-refused → tie.After-then2
+refusing c = c .before .before .before .before
+
+abbrev accepting : tie.After-act-letters → tie.After-enum-told
+accepting c = c .before .before .before
+
+abbrev acted : tie.After-size → tie.After-act-letters
+acted c = c .before .before .before
+
+-- ---- the needs
 
 -- the row of checks
 row : (c : tie.After-then2) → let u = start c .args in
@@ -57,29 +72,29 @@ good c = taken _ _ _ (sym (row (c .before .before)) ∙ c .enum-told .given .1)
 
 returns : tie.Need-returns
 unfolding actWordCall
-returns c = ended-refused refused _ _ _ (sym (row (c .before .before .before .before)) ∙ c .before .before .checked .given .1) (c .refused .ensures)
+returns c = ended-refused refused _ _ _ (sym (row (refusing c)) ∙ c .before .before .checked .given .1) (c .refused .ensures)
 
 act-letters-requires : tie.Need-act-letters-requires
-act-letters-requires c κs = let g = good (c .before .before) in (g .rank, g .element, g .word)
+act-letters-requires c κs = let g = good (c .before .before) in record { rank = g .rank; letters = g .word; size = g .element }
 
 size-requires : tie.Need-size-requires
-size-requires c κs = good (c .before .before .before .before .before) .rank
+size-requires c κs = good (accepting (c .before .before)) .rank
 
 mul-accepted : tie.Need-mul-accepted
-mul-accepted c = let g = good (c .before .before .before .before .before .before) in omega (arith, size-small _ (g .rank), c .size .ensures)
+mul-accepted c = let g = good (accepting (acted c)) in omega (arith, size-small _ (g .rank), c .size .ensures)
 
 mul-accepted-2 : tie.Need-mul-accepted-2
 mul-accepted-2 c =
-    let g = good (c .before .before .before .before .before .before) in
+    let g = good (accepting (acted c)) in
     record { fits = few _ _ (g .few) (omega (arith, size-small _ (g .rank), c .size .ensures)) }
 
 returns-2 : tie.Need-returns-2
 unfolding actWordCall
 returns-2 c =
-    let made = c .before .before .before .before in let told = made .before .before .before in
+    let made = acted (c .before) in let told = accepting made in
     let u = start (told .before .before) .args in
     write-done _ _ _ _ (sym (row (told .before .before)) ∙ told .enum-told .given .1)
-    (letters-act (u .m) (u .q) (u .word .now) (u .element .now) (made .act-letters .ensures) (made .before .minus-one .ensures))
+    (letters-act (u .m) (u .q) (u .word .now) (u .element .now) (made .act-letters .ensures) (made .before .parameters-of .ensures))
     (ap (λ (n : ℕ). length (u .word .now) * (3 * n / 2)) (c .before .size .ensures)) (c .accepted .ensures)
 
 pub act-word-spec : {M : Type 1} → statement M

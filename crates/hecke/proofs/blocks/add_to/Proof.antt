@@ -1,4 +1,4 @@
--- The loop writes the words of the sum. Word i of d is still as it was when the sum of its words i is made.
+-- The loop writes the words of the sum. Word i of d is still as it was when the sum of its words i is made. Rests on word_lists' Loops.
 use mathlib.Core.Path.{_≡_, refl}
 use Prim.Native.Nat.{ℕ, _-_, _≤_}
 use native.Mathlib.Omega.{arith}
@@ -9,6 +9,7 @@ use Rattle.lists.proofs.Fill.{filled-none, filled-more}
 use Rattle.algebra.specs.Element.{plus}
 use Rattle.algebra.proofs.Lists.{plus-length}
 use Rattle.word_lists.proofs.Loops.{Written, written-all, plus-next}
+use Rattle.element_calls.specs.Coefficients.{modulus}
 use Rattle.hecke.proofs.blocks.add_to.Statement.{statement}
 use Rattle.hecke.proofs.blocks.add_to.Tie as tie
 
@@ -18,23 +19,34 @@ Inv-loop d₀ s i₀ i-end d i = (i ≤ i-end) × (i-end ≡ length s) × Writte
 abbrev μ-loop : tie.MeasureT-loop
 μ-loop d₀ s i₀ i-end d i = i-end - i
 
+-- ---- places: the loop, from the end of a step, and the start, from the loop
+
+abbrev at-loop : tie.After-add Inv-loop μ-loop → tie.At-loop Inv-loop μ-loop
+at-loop c = c .before .before .before .before
+
+abbrev start : tie.At-loop Inv-loop μ-loop → tie.Start Inv-loop μ-loop
+start c = c .before .before .before
+
+-- ---- the needs
+
 loop-holds : tie.Need-loop-holds Inv-loop μ-loop
 loop-holds c = (omega arith, refl, filled-none _ _)
 
 loop-again : tie.Need-loop-again Inv-loop μ-loop
-loop-again c = let at = c .before .before .before .before in let start = at .before .before .before in let u = start .args in let h = at .loop .inv .2 in (
+loop-again c = let at = at-loop c in let u = start at .args in let h = at .loop .inv .2 in (
   omega arith,
   refl,
   filled-more _ h (omega arith)
-      (plus-next (u .d .now) (u .s .now) (at .loop .i) (c .add .ensures) (h .rest (at .loop .i) (omega arith)) refl (omega arith) (start .pre)),
+      (plus-next (u .d .now) (u .s .now) (at .loop .i) (c .add .ensures) (h .rest (at .loop .i) (omega arith)) refl (omega arith) (start at .pre)),
 )
 
 same-length : tie.Need-same-length Inv-loop μ-loop
 same-length c = c .before .loop .inv .2 .same
 
 returns : tie.Need-returns Inv-loop μ-loop
-returns c = let start = c .before .before .before .before in
-    written-all _ (c .before .loop .inv .2) (omega arith) (plus-length ℕ words (start .args .d .now) (start .args .s .now) (start .pre))
+unfolding modulus
+returns c = let at = c .before in let u = start at .args in
+    written-all _ (at .loop .inv .2) (omega arith) (plus-length ℕ words (u .d .now) (u .s .now) (start at .pre))
 
 pub add-to-spec : {M : Type 1} → statement M
 add-to-spec =

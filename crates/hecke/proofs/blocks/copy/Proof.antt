@@ -1,4 +1,4 @@
--- The loop writes the words of s.
+-- The loop writes the words of s. Rests on word_lists' Loops.
 use mathlib.Core.Path.{_≡_, refl, sym}
 use Prim.Native.Nat.{_-_, _≤_}
 use native.Mathlib.Omega.{arith}

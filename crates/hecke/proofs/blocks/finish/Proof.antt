@@ -1,19 +1,22 @@
--- The sum is made in the other order.
+-- The sum is made in the other order. Rests on Sums.
 use mathlib.Core.Path.{ap, _∙_}
 use Prim.Native.Nat.{ℕ}
 use native.Mathlib.Nat.{sub-zero}
 use borrow.Author.Needs.{needs}
 use lib.ListN.{length, take}
-use Rattle.ring.specs.Modular.{words}
 use Rattle.algebra.specs.Element.{plus}
+use Rattle.element_calls.specs.Coefficients.{ring}
 use Rattle.hecke.proofs.Sums.{plus-comm}
 use Rattle.hecke.proofs.blocks.finish.Statement.{statement}
 use Rattle.hecke.proofs.blocks.finish.Tie as tie
 
+abbrev start : tie.After-add-to → tie.Start
+start c = c .before .before .before .before .before
+
 returns : tie.Need-returns
-returns c = let at = c .before .before in let u = at .before .before .before .before .before .args in
-    at .add-to .ensures ∙ ap (λ (n : ℕ). plus ℕ words (u .d .now) (take n (u .s .now))) (sub-zero (length (u .d .now)))
-    ∙ plus-comm (u .d .now) (take (length (u .d .now)) (u .s .now))
+returns c = let at = c .before .before in let u = start at .args in
+    at .add-to .ensures ∙ ap (λ (n : ℕ). plus ℕ (ring (u .p)) (u .d .now) (take n (u .s .now))) (sub-zero (length (u .d .now)))
+    ∙ plus-comm (u .p) (u .d .now) (take (length (u .d .now)) (u .s .now))
 
 pub finish-spec : {M : Type 1} → statement M
 finish-spec = tie.close (tie.spec (λ c. search needs) (λ c. search needs) (λ c. search needs) (λ c κs. search needs) (λ c. search needs) returns)

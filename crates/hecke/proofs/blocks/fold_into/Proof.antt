@@ -1,4 +1,4 @@
--- The loop writes the words of the sum. Word i of d is still as it was when its multiple is made.
+-- The loop writes the words of the sum. Word i of d is still as it was when its multiple is made. Rests on word_lists' Loops.
 use mathlib.Core.Path.{_≡_, refl, sym, _∙_}
 use Prim.Native.Nat.{ℕ, _-_, _≤_}
 use native.Mathlib.Omega.{arith}
@@ -9,36 +9,47 @@ use Rattle.lists.proofs.Fill.{filled-none, filled-more}
 use Rattle.algebra.specs.Element.{plus, scale}
 use Rattle.algebra.proofs.Lists.{plus-length, scale-length}
 use Rattle.word_lists.proofs.Loops.{Written, written-all, plus-next, scale-next}
+use Rattle.element_calls.specs.Coefficients.{modulus}
 use Rattle.hecke.proofs.blocks.fold_into.Statement.{statement}
 use Rattle.hecke.proofs.blocks.fold_into.Tie as tie
 
 abbrev Inv-loop : tie.InvT-loop
-Inv-loop d₀ r s i₀ i-end d i = (i ≤ i-end) × (i-end ≡ length s) × Written (plus ℕ words s (scale ℕ words r d₀)) d₀ d i
+Inv-loop d₀ s p i₀ i-end d i = (i ≤ i-end) × (i-end ≡ length s) × Written (plus ℕ words s (scale ℕ words (p .r) d₀)) d₀ d i
 
 abbrev μ-loop : tie.MeasureT-loop
-μ-loop d₀ r s i₀ i-end d i = i-end - i
+μ-loop d₀ s p i₀ i-end d i = i-end - i
+
+-- ---- places: the loop, from the end of a step, and the start, from the loop
+
+abbrev at-loop : tie.After-add Inv-loop μ-loop → tie.At-loop Inv-loop μ-loop
+at-loop c = c .before .before .before .before .before
+
+abbrev start : tie.At-loop Inv-loop μ-loop → tie.Start Inv-loop μ-loop
+start c = c .before .before .before
+
+-- ---- the needs
 
 loop-holds : tie.Need-loop-holds Inv-loop μ-loop
 loop-holds c = (omega arith, refl, filled-none _ _)
 
 loop-again : tie.Need-loop-again Inv-loop μ-loop
-loop-again c = let at = c .before .before .before .before .before in let start = at .before .before .before in let u = start .args in let i = at .loop .i in
-    let h = at .loop .inv .2 in
-    let multiple = scale-next (u .r) (u .d .now) i (c .before .mul .ensures) (h .rest i (omega arith)) (omega arith) in (
+loop-again c = let at = at-loop c in let u = start at .args in let i = at .loop .i in let h = at .loop .inv .2 in
+    let multiple = scale-next (u .p .r) (u .d .now) i (c .before .mul .ensures) (h .rest i (omega arith)) (omega arith) in (
       omega arith,
       refl,
       filled-more _ h (omega arith)
-          (plus-next (u .s .now) (scale ℕ words (u .r) (u .d .now)) i (c .add .ensures) refl multiple (omega arith)
-          (sym (scale-length ℕ words (u .r) (u .d .now) ∙ start .pre))),
+          (plus-next (u .s .now) (scale ℕ words (u .p .r) (u .d .now)) i (c .add .ensures) refl multiple (omega arith)
+          (sym (scale-length ℕ words (u .p .r) (u .d .now) ∙ start at .pre))),
     )
 
 same-length : tie.Need-same-length Inv-loop μ-loop
 same-length c = c .before .loop .inv .2 .same
 
 returns : tie.Need-returns Inv-loop μ-loop
-returns c = let start = c .before .before .before .before in let u = start .args in
-    let e = sym (scale-length ℕ words (u .r) (u .d .now) ∙ start .pre) in
-    written-all _ (c .before .loop .inv .2) (omega arith) (plus-length ℕ words (u .s .now) (scale ℕ words (u .r) (u .d .now)) e ∙ sym (start .pre))
+unfolding modulus
+returns c = let at = c .before in let u = start at .args in
+    let e = sym (scale-length ℕ words (u .p .r) (u .d .now) ∙ start at .pre) in
+    written-all _ (at .loop .inv .2) (omega arith) (plus-length ℕ words (u .s .now) (scale ℕ words (u .p .r) (u .d .now)) e ∙ sym (start at .pre))
 
 pub fold-into-spec : {M : Type 1} → statement M
 fold-into-spec =

@@ -1,53 +1,112 @@
--- The loop writes the words of q times those from index b on, which it has not reached when it reads them; the copy puts w after them.
+-- The first b words of sum come back as the last block; each pair of blocks is lowered; the copy puts the last block at the end of x. Rests on Moved.
 use mathlib.Core.Path.{_≡_, sym, _∙_}
 use mathlib.Core.List.{_++_}
-use Prim.Native.Nat.{ℕ, _-_, _+_, _≤_}
+use Prim.Native.Nat.{_-_, _+_, _*_, _≤_}
+use native.Mathlib.Nat.{suc-mul}
 use native.Mathlib.Omega.{arith}
 use borrow.Author.Needs.{needs}
-use lib.ListN.{length, drop, length-drop}
-use lib.Seq.{getD-drop}
-use Rattle.ring.specs.Modular.{words}
-use Rattle.lists.proofs.Fill.{filled-none, filled-more}
+use lib.ListN.{length}
+use lib.Seq.{length-take-le}
+use borrow.Rule.Slice.PartMut.{putMid, same-len-mid}
 use Rattle.lists.proofs.Parts.{rest-size, rest-put}
-use Rattle.algebra.specs.Element.{scale}
-use Rattle.algebra.proofs.Lists.{scale-length}
-use Rattle.word_lists.proofs.Loops.{Written, written-front, scale-next}
+use Rattle.lists.proofs.Passed.{passed-none}
+use Rattle.hecke.proofs.Moved.{Moved, pair-fits, pair-size, moved-more, moved-all, last-block}
 use Rattle.hecke.proofs.blocks.shift.Statement.{statement}
 use Rattle.hecke.proofs.blocks.shift.Tie as tie
 
 abbrev Inv-loop : tie.InvT-loop
-Inv-loop x₀ b q w top i₀ x i = (i ≤ top) × (top + b ≡ length x₀) × Written (scale ℕ words q (drop b x₀)) x₀ x i
+Inv-loop x₀ sum b l p i₀ x i = (i ≤ l) × Moved p b x₀ x i
 
 abbrev μ-loop : tie.MeasureT-loop
-μ-loop x₀ b q w top i₀ x i = top - i
+μ-loop x₀ sum b l p i₀ x i = l - i
+
+-- ---- places: where sum is folded; the start; the loop, from the end of a step and from the copy
+
+abbrev folded : tie.At-loop Inv-loop μ-loop → tie.After-fold-into Inv-loop μ-loop
+folded c = c .before .before .before
+
+abbrev begin : tie.After-x Inv-loop μ-loop → tie.Start Inv-loop μ-loop
+begin c = c .before .before .before .before
+
+abbrev start : tie.At-loop Inv-loop μ-loop → tie.Start Inv-loop μ-loop
+start c = begin (folded c .before .before)
+
+abbrev in-loop : tie.After-slice-known4 Inv-loop μ-loop → tie.In-loop Inv-loop μ-loop
+in-loop c = c .before .before .before .before
+
+abbrev passed : tie.After-copy-arg2 Inv-loop μ-loop → tie.At-loop Inv-loop μ-loop
+passed c = c .before .before .before .before
+
+-- ---- before the loop
+
+-- the first b words are within x
+low : (c : tie.Start Inv-loop μ-loop) → c .args .b ≤ length (c .args .x .now)
+low c = omega (arith, suc-mul (c .args .l) (c .args .b), c .pre .0)
+
+part-fold-into-end-2 : tie.Need-part-fold-into-end-2 Inv-loop μ-loop
+part-fold-into-end-2 c = omega (arith, low (begin c))
+
+fold-into-requires : tie.Need-fold-into-requires Inv-loop μ-loop
+fold-into-requires c κs =
+    let first = begin (c .before) in
+    let u = first .args in
+    length-take-le (u .b - 0) (u .sum .now) (omega (arith, first .pre .1)) ∙ sym (length-take-le (u .b - 0) (u .x .now) (omega (arith, low first)))
+
+-- ---- the loop
 
 loop-holds : tie.Need-loop-holds Inv-loop μ-loop
-loop-holds c = (omega arith, omega arith, filled-none _ _)
+loop-holds c = (omega arith, passed-none _ _ _)
+
+-- the two blocks from index i b on are within x
+inside : (c : tie.In-loop Inv-loop μ-loop) → let at = c .before in let b = start at .args .b in at .loop .i * b + b + b ≤ length (at .loop .x)
+inside c = let at = c .before in omega (arith, pair-fits (start at .args .b) (c .loop-test .taken) (start at .pre .0), at .loop .inv .1 .same)
+
+lower-requires : tie.Need-lower-requires Inv-loop μ-loop
+lower-requires c κs = let at = c .before .before in pair-size (start at .args .b) (at .loop .i) (at .loop .x) (inside (c .before))
 
 loop-again : tie.Need-loop-again Inv-loop μ-loop
-loop-again c = let at = c .before .before .before in let u = at .before .before .before .args in let i = at .loop .i in let h = at .loop .inv .2 in
-    let old = h .rest (u .b + i) (omega arith) ∙ sym (getD-drop (u .b) (u .x .now) i 0) in (
-      omega arith,
-      omega arith,
-      filled-more _ h (omega arith)
-          (scale-next (u .q) (drop (u .b) (u .x .now)) i (c .mul .ensures) old (omega (arith, length-drop (u .b) (u .x .now)))),
-    )
+loop-again c =
+    let within = in-loop c in let at = within .before in
+    (omega arith, moved-more (start at .args .p) (at .loop .inv .1) (inside within) (c .before .before .lower .ensures))
+
+-- ---- after it
+
+-- the last block of x is b words
+top : (c : tie.At-loop Inv-loop μ-loop) → let u = start c .args in u .l * u .b + u .b ≡ length (c .loop .x)
+top c = let u = start c .args in omega (arith, suc-mul (u .l) (u .b), start c .pre .0, c .loop .inv .1 .same)
+
+sum-size : (c : tie.At-loop Inv-loop μ-loop)
+    → let u = start c .args in length (putMid 0 (u .b - 0) (u .sum .now) (folded c .fold-into .last .0)) ≡ length (u .sum .now)
+sum-size c = let u = start c .args in same-len-mid 0 (u .b - 0) (u .sum .now) (folded c .fold-into .last .0) (folded c .fold-into .kept .0)
+
+part-copy-end-2 : tie.Need-part-copy-end-2 Inv-loop μ-loop
+part-copy-end-2 c = let at = c .before .before .before in omega (arith, sum-size at, start at .pre .1)
 
 copy-requires : tie.Need-copy-requires Inv-loop μ-loop
-copy-requires c κs = let at = c .before .before in let u = at .before .before .before .args in
-    omega (arith, rest-size (length (u .x .now) - u .b) (at .loop .x), at .loop .inv .2 .same)
+copy-requires c κs =
+    let at = passed c in let u = start at .args in
+    rest-size (u .l * u .b) (at .loop .x) ∙ omega (arith, top at)
+    ∙ sym (length-take-le (u .b - 0) (putMid 0 (u .b - 0) (u .sum .now) (folded at .fold-into .last .0)) (omega (arith, sum-size at, start at .pre .1)))
+
+same-length : tie.Need-same-length Inv-loop μ-loop
+same-length c =
+    let copied = c .before .before in let at = passed (copied .before) in let u = start at .args in
+    same-len-mid (u .l * u .b) (length (at .loop .x) - u .l * u .b) (at .loop .x) (copied .copy .last .0) (copied .copy .kept .0) ∙ at .loop .inv .1 .same
 
 returns : tie.Need-returns Inv-loop μ-loop
-returns c = let at = c .before .before .before .before .before in let u = at .before .before .before .args in let top = length (u .x .now) - u .b in
-    let front = scale ℕ words (u .q) (drop (u .b) (u .x .now)) in
-    let e : at .loop .i ≡ top = omega arith in
-    let size = scale-length ℕ words (u .q) (drop (u .b) (u .x .now)) ∙ length-drop (u .b) (u .x .now) in
-    rest-put top (at .loop .x) _
-    ∙ (λ i. written-front front (rw e at (at .loop .inv .2)) (omega arith) size i ++ c .before .before .copy .ensures i)
+returns c =
+    let copied = c .before .before in let at = passed (copied .before) in let u = start at .args in
+    let done : at .loop .i ≡ u .l = omega arith in
+    let fold = folded at .fold-into in
+    let last = last-block (u .p) (u .b) (u .x .now) (u .sum .now) (start at .pre .1) (fold .kept .0) (fold .ensures) (copied .copy .ensures) in
+    rest-put (u .l * u .b) (at .loop .x) _ ∙ (λ i. moved-all (u .p) (at .loop .inv .1) done (start at .pre .0) i ++ last i)
 
 pub shift-spec : {M : Type 1} → statement M
 shift-spec =
     tie.close
-    (tie.spec Inv-loop μ-loop (λ c. omega arith) loop-holds (λ c. omega arith) (λ c. omega arith) (λ c. omega arith) (λ c κs. search needs)
-    (λ c. omega arith) (λ c. omega arith) (λ c. omega arith) (λ c. omega arith) loop-again (λ c. omega arith) (λ c. omega arith)
-    (λ c. omega arith) (λ c. omega arith) copy-requires (λ c. omega arith) returns)
+    (tie.spec Inv-loop μ-loop (λ c. search needs) (λ c. search needs) (λ c. search needs) (λ c. search needs) (λ c. search needs) part-fold-into-end-2
+    fold-into-requires loop-holds (λ c. omega (arith, inside c)) (λ c. omega (arith, inside c)) (λ c. omega (arith, inside c))
+    (λ c. omega (arith, inside c)) (λ c. omega (arith, inside c)) (λ c. omega (arith, inside c)) (λ c. inside c) lower-requires (λ c. omega arith)
+    (λ c. omega arith) loop-again (λ c. omega (arith, top (c .before))) (λ c. omega (arith, top (c .before))) (λ c. omega (arith, top (c .before)))
+    (λ c. omega (arith, top (c .before))) (λ c. omega arith) (λ c. omega arith) (λ c. omega arith) part-copy-end-2 copy-requires
+    same-length (λ c. sum-size (passed (c .before .before .before))) returns)

@@ -1,0 +1,59 @@
+//! Compiles `c/nested.c` by cc, and by clang where there is one, and renames the calls of an older archive, if one is given.
+
+use std::path::{Path, PathBuf};
+use std::process::Command;
+
+/// Runs a program, and panics if it fails.
+fn run(command: &mut Command) {
+    let status = command.status().unwrap_or_else(|error| panic!("{command:?}: {error}"));
+    assert!(status.success(), "{command:?} fails");
+}
+
+/// Compiles the product and the word action under names that begin with the compiler's, for the archive's target.
+fn compiled(compiler: &str, out: &Path) -> PathBuf {
+    let object = out.join(format!("nested_{compiler}.o"));
+    let names = [format!("-DPRODUCT={compiler}_product"), format!("-DACT_WORD={compiler}_act_word")];
+    let flags = ["-std=gnu11", "-Wall", "-Wextra", "-O3", "-march=x86-64", "-fPIE", "-c", "c/nested.c", "-o"];
+    run(Command::new(compiler).args(names).args(flags).arg(&object));
+    object
+}
+
+/// Has the static library of a name, which stands in the folder, linked.
+fn link(name: &str, out: &Path) {
+    println!("cargo::rustc-link-search=native={}", out.display());
+    println!("cargo::rustc-link-lib=static={name}");
+}
+
+/// The product and the word action of an older archive, under names that begin with `before_`; its other names become local.
+fn renamed(archive: &str, out: &Path) {
+    let mut objcopy = Command::new("objcopy");
+    for call in ["hecke_product", "hecke_act_word"] {
+        objcopy.arg(format!("--redefine-sym={call}=before_{call}")).arg(format!("--keep-global-symbol=before_{call}"));
+    }
+    run(objcopy.arg(archive).arg(out.join("libbefore.a")));
+}
+
+fn main() {
+    let out = PathBuf::from(std::env::var("OUT_DIR").unwrap());
+    println!("cargo::rerun-if-changed=c/nested.c");
+    println!("cargo::rerun-if-env-changed=PATH");
+    println!("cargo::rerun-if-env-changed=HECKE_BEFORE");
+    println!("cargo::rustc-check-cfg=cfg(clang, before)");
+
+    let mut objects = vec![compiled("cc", &out)];
+    if Command::new("clang").arg("--version").output().is_ok() {
+        println!("cargo::rustc-cfg=clang");
+        objects.push(compiled("clang", &out));
+    }
+    let library = out.join("libnested.a");
+    let _ = std::fs::remove_file(&library);
+    run(Command::new("ar").arg("crs").arg(&library).args(objects));
+    link("nested", &out);
+
+    if let Some(archive) = std::env::var("HECKE_BEFORE").ok().filter(|archive| !archive.is_empty()) {
+        println!("cargo::rerun-if-changed={archive}");
+        println!("cargo::rustc-cfg=before");
+        renamed(&archive, &out);
+        link("before", &out);
+    }
+}

@@ -1,0 +1,75 @@
+//! The product and the word action of an older archive, where the build was given one by the variable HECKE_BEFORE.
+
+use plain::sheet::{Action, Product};
+
+#[cfg(before)]
+mod archive {
+    extern "C" {
+        fn before_hecke_act_word(
+            m: usize,
+            q: u64,
+            word: *const u8,
+            word_len: usize,
+            element: *mut u64,
+            element_len: usize,
+            answer: *mut u64,
+            answer_len: usize,
+        ) -> u64;
+
+        fn before_hecke_product(
+            m: usize,
+            q: u64,
+            left: *const u64,
+            left_len: usize,
+            right: *const u64,
+            right_len: usize,
+            result: *mut u64,
+            result_len: usize,
+            scratch: *mut u64,
+            scratch_len: usize,
+            answer: *mut u64,
+            answer_len: usize,
+        ) -> u64;
+    }
+
+    pub fn act_word(m: usize, q: u64, word: &[u8], element: &mut [u64]) {
+        let mut answer = [0];
+        let (word, letters) = (word.as_ptr(), word.len());
+        let refusal =
+            unsafe { before_hecke_act_word(m, q, word, letters, element.as_mut_ptr(), element.len(), answer.as_mut_ptr(), 1) };
+        assert_eq!(refusal, 0);
+    }
+
+    pub fn product(m: usize, q: u64, left: &[u64], right: &[u64], result: &mut [u64], scratch: &mut [u64]) {
+        let mut answer = [0];
+        let refusal = unsafe {
+            before_hecke_product(
+                m,
+                q,
+                left.as_ptr(),
+                left.len(),
+                right.as_ptr(),
+                right.len(),
+                result.as_mut_ptr(),
+                result.len(),
+                scratch.as_mut_ptr(),
+                scratch.len(),
+                answer.as_mut_ptr(),
+                1,
+            )
+        };
+        assert_eq!(refusal, 0);
+    }
+}
+
+/// The product, if there is an older archive.
+pub const PRODUCTS: &[Product] = &[
+    #[cfg(before)]
+    archive::product,
+];
+
+/// The word action, if there is an older archive.
+pub const ACTIONS: &[Action] = &[
+    #[cfg(before)]
+    archive::act_word,
+];
