@@ -16,4 +16,6 @@ mod Middle
 mod RankTwo
 -- the product
 mod Layers
+mod Summands
+mod LowFactors
 mod Products

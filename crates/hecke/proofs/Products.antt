@@ -7,20 +7,22 @@ use native.Mathlib.Nat.{sub-zero}
 use native.Mathlib.Omega.{arith}
 use lib.ListN.{length, take, drop, replicate}
 use lib.Seq.{length-take-le, take-at, drop-at}
-use Rattle.ring.specs.Modular.{words}
 use Rattle.lists.specs.Numbers.{factorial}
 use Rattle.refusals.specs.Refusals.{_then_, accepted}
 use Rattle.refusals.specs.declared.Verdict.the-variants.{Accepted}
 use Rattle.refusals.specs.declared.Answer.{Answer}
 use Rattle.algebra.specs.Element.{Element}
-use Rattle.algebra.specs.Product.{minusOne, times}
+use Rattle.algebra.specs.Nested.{operations, nested}
+use Rattle.algebra.specs.Cost.{C}
+use Rattle.algebra.specs.Product.{times}
 use Rattle.algebra.proofs.Modular.{word-method}
 use Rattle.ranks.specs.Ranks.{needed, scratchSize, productCount}
 use Rattle.ranks.proofs.Sizes.{scratch-size-is, product-count-is}
+use Rattle.element_calls.specs.declared.Parameters.{Parameters}
+use Rattle.element_calls.specs.Coefficients.{modulus, ring, parametersOf}
 use Rattle.element_calls.specs.Calls.{rankVerdict, sizeVerdict, scratchVerdict, productCall}
-use Rattle.element_calls.proofs.Calls.{write-done}
 use Rattle.element_calls.proofs.Verdicts.{product-accepted}
-use Rattle.element_calls.proofs.Calls.{product-counted}
+use Rattle.element_calls.proofs.Calls.{write-done, product-counted}
 use Rattle.hecke.specs.Steps.{multiplied, TimesPre}
 
 -- the checks accept, and n words of scratch are lent
@@ -30,26 +32,22 @@ pub record Checked (m n : ℕ) (h g result scratch : List ℕ) : Type 0 where
       ≡ Accepted
   pub need : n ≡ scratchSize m
 
-module _ {m n : ℕ} {h g result scratch : List ℕ} (p : Checked m n h g result scratch) where
+module _ {m n : ℕ} {h g result scratch : List ℕ} (c : Checked m n h g result scratch) where
   pub sizes : (m ≤ 6) × (length h ≡ factorial (suc m)) × (length g ≡ factorial (suc m)) × (length result ≡ factorial (suc m)) × (needed m ≤ length scratch)
-  sizes = product-accepted m (length h) (length g) (length result) (length scratch) (p .verdict)
+  sizes = product-accepted m (length h) (length g) (length result) (length scratch) (c .verdict)
 
   need-is : n ≡ needed m
-  need-is = p .need ∙ scratch-size-is m (sizes .0)
+  need-is = c .need ∙ scratch-size-is m (sizes .0)
 
-  pub room : n ≤ length scratch
-  room = omega (arith, need-is, sizes .4)
+  pub enough : n ≤ length scratch
+  enough = omega (arith, need-is, sizes .4)
 
   pub times-pre : TimesPre m m result (take (n - 0) scratch) h g
   unfolding needed
   times-pre =
       record {
-        rank = sizes .0;
-        within = omega arith;
-        left = sizes .1;
-        right = sizes .2;
-        result = sizes .3;
-        room = omega (arith, length-take-le (n - 0) scratch (omega (arith, room)), need-is);
+        factors = record { rank = sizes .0; within = omega arith; left = sizes .1; right = sizes .2; result = sizes .3 };
+        enough = omega (arith, length-take-le (n - 0) scratch (omega (arith, enough)), need-is);
       }
 
 -- the first n words were lent, came back as v, were lent again, and came back as zeros
@@ -61,17 +59,24 @@ cleared n w v u h lv e =
     ∙ (λ i. replicate ((l ∙ sub-zero n) i) 0 ++ drop (sub-zero n i) w)
 
 module _ {m : ℕ} {h g : List ℕ} (eh : Element (λ n. n < 2 ^ 64) m h) (eg : Element (λ n. n < 2 ^ 64) m g) (q : ℕ) where
-  product-value : q < 2 ^ 64 → multiplied q (minusOne ℕ words q) m m h g ≡ times ℕ words q (minusOne ℕ words q) m m h g
-  unfolding multiplied
+  abbrev p₀ : Parameters
+  p₀ = parametersOf q
+
+  product-value : q < 2 ^ 64 → multiplied p₀ m m h g ≡ times ℕ (ring p₀) (p₀ .q) (p₀ .r) m m h g
+  unfolding multiplied modulus
   product-value hq = word-method m q hq .value m (omega arith) h g eh eg
 
-  pub product-done : {n r k : ℕ} {result y u : List ℕ} {a : Answer} (scratch v : List ℕ) → Checked m n h g result scratch → q < 2 ^ 64
-      → r ≡ minusOne ℕ words q → y ≡ multiplied q r m m h g → length v ≡ length (take (n - 0) scratch)
+  counted : operations (nested ℕ (ring p₀) (p₀ .q) (p₀ .r) m m h g .count) ≡ C m m
+  unfolding modulus
+  counted = product-counted p₀ eh eg
+
+  pub product-done : {p : Parameters} {n k : ℕ} {result y u : List ℕ} {a : Answer} (scratch v : List ℕ) → Checked m n h g result scratch → q < 2 ^ 64
+      → p ≡ p₀ → y ≡ multiplied p m m h g → length v ≡ length (take (n - 0) scratch)
       → u ≡ replicate (length (take (n - 0) (v ++ drop (n - 0) scratch))) 0 → k ≡ productCount m → a ≡ accepted k
       → productCall m q h g result scratch ≡ record { answer = a; lent = record { result = y; scratch = u ++ drop (n - 0) (v ++ drop (n - 0) scratch) } }
   unfolding productCall
-  product-done {n} {u = u} scratch v p hq er ey lv eu ek ea =
-      let value = ey ∙ ap (λ (n : ℕ). multiplied q n m m h g) er ∙ product-value hq in
-      let zeros = cleared n scratch v u (room p) lv eu ∙ ap (λ (n : ℕ). replicate n 0 ++ drop n scratch) (need-is p) in
-      let count = ek ∙ product-count-is m (sizes p .0) ∙ sym (product-counted eh eg q) in
-      write-done _ _ _ _ (p .verdict) (λ i. record { result = value i; scratch = zeros i }) count ea
+  product-done {n = n} {u = u} scratch v c hq ep ey lv eu ek ea =
+      let value = ey ∙ ap (λ (p : Parameters). multiplied p m m h g) ep ∙ product-value hq in
+      let zeros = cleared n scratch v u (enough c) lv eu ∙ ap (λ (n : ℕ). replicate n 0 ++ drop n scratch) (need-is c) in
+      let count = ek ∙ product-count-is m (sizes c .0) ∙ sym counted in
+      write-done _ _ _ _ (c .verdict) (λ i. record { result = value i; scratch = zeros i }) count ea

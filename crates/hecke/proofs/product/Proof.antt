@@ -1,4 +1,4 @@
--- The rank, the three sizes and the scratch are judged; then the product is written, and the scratch is cleared.
+-- The rank, the three sizes and the scratch are judged; then the product is written, and the scratch is cleared. Rests on Products.
 use mathlib.Core.Path.{_≡_, sym, _∙_}
 use native.Mathlib.Omega.{arith}
 use borrow.Author.Needs.{needs}
@@ -8,18 +8,29 @@ use Rattle.refusals.proofs.Verdicts.{both}
 use Rattle.refusals.proofs.Ended.{ended-refused}
 use Rattle.algebra.proofs.WordSlices.{slice-element}
 use Rattle.element_calls.specs.Calls.{rankVerdict, sizeVerdict, scratchVerdict, productCall}
-use Rattle.hecke.proofs.Products.{Checked, sizes, room, times-pre, product-done}
+use Rattle.hecke.proofs.Products.{Checked, sizes, enough, times-pre, product-done}
 use Rattle.hecke.proofs.product.Statement.{statement}
 use Rattle.hecke.proofs.product.Tie as tie
 
--- the slices of the two factors
+-- ---- places: the slices of the two factors, the start; the checks, where one refuses; how many words of scratch are lent; the product
+
 abbrev factors : tie.After-then4 → tie.After-shared-slice-known2
 factors c = c .before .before .before .before .before .before .before .before .before .before .before
 
 abbrev start : tie.After-then4 → tie.Start
 start c = factors c .before .before
 
--- the row of checks
+abbrev judged : tie.After-refused → tie.After-then4
+judged c = c .before .before .before .before
+
+abbrev lent : tie.After-times → tie.After-scratch-size
+lent c = c .before .before .before .before
+
+abbrev made : tie.After-slice-known4 → tie.After-times
+made c = c .before .before .before .before
+
+-- ---- the row of checks
+
 row : (c : tie.After-then4) → let u = start c .args in let size = sizeVerdict (u .m) in
     c .then4 .result
     ≡ (rankVerdict (u .m) then size (length (u .left .now)) then size (length (u .right .now)) then size (length (u .result .now))
@@ -37,29 +48,29 @@ checked : (c : tie.After-scratch-size) → let u = start (c .before .before .bef
     Checked (u .m) (c .scratch-size .result) (u .left .now) (u .right .now) (u .result .now) (u .scratch .now)
 checked c = record { verdict = sym (row (c .before .before .before)) ∙ c .before .enum-told .given .1; need = c .scratch-size .ensures }
 
+-- ---- the needs
+
 returns : tie.Need-returns
 unfolding productCall
-returns c = ended-refused refused _ _ _ (sym (row (c .before .before .before .before)) ∙ c .before .before .checked .given .1) (c .refused .ensures)
+returns c = ended-refused refused _ _ _ (sym (row (judged c)) ∙ c .before .before .checked .given .1) (c .refused .ensures)
 
 part-times-end : tie.Need-part-times-end
-part-times-end c = omega (arith, room (checked (c .before)))
+part-times-end c = omega (arith, enough (checked (c .before)))
 
 times-requires : tie.Need-times-requires
 times-requires c κs = times-pre (checked (c .before .before .before))
 
 part-clear-end : tie.Need-part-clear-end
-part-clear-end c = omega (arith, room (checked (c .before .before .before .before .before .before .before .before)))
+part-clear-end c = omega (arith, enough (checked (lent (made c))))
 
 returns-2 : tie.Need-returns-2
 returns-2 c =
-    let made = c .before .before .before .before .before .before .before .before .before .before in
-    let sized = made .before .before .before .before in let p = checked sized in
-    let slices = factors (sized .before .before .before) in let s0 = slices .before .before in
-    let h = slice-element (sizes p .1) (slices .before .shared-slice-known .given) in
-    let g = slice-element (sizes p .2) (slices .shared-slice-known2 .given) in
-    product-done h g (s0 .args .q) (s0 .args .scratch .now) (made .times .last .1 .0) p (s0 .fits .q .fits)
-    (made .before .minus-one .ensures) (made .times .ensures) (made .times .kept .1 .0) (c .before .before .before .before .clear .ensures)
-    (c .before .product-count .ensures) (c .accepted .ensures)
+    let count = c .before in let clear = count .before .before .before in let y = made (clear .before .before) in let sized = lent y in
+    let d = checked sized in let slices = factors (sized .before .before .before) in let s = slices .before .before in
+    let h = slice-element (sizes d .1) (slices .before .shared-slice-known .given) in
+    let g = slice-element (sizes d .2) (slices .shared-slice-known2 .given) in
+    product-done h g (s .args .q) (s .args .scratch .now) (y .times .last .1 .0) d (s .fits .q .fits) (y .before .parameters-of .ensures)
+    (y .times .ensures) (y .times .kept .1 .0) (clear .clear .ensures) (count .product-count .ensures) (c .accepted .ensures)
 
 pub product-spec : {M : Type 1} → statement M
 product-spec =

@@ -1,31 +1,45 @@
--- g_0 h is made in the first words of the scratch, (g_1 h) T_1 in the result, and their sum in the result.
-use mathlib.Core.Path.{_∙_}
+-- g_1 h is made in the result, T_1 acts on it, and g_0 h is added. Rests on LowFactors.
+use mathlib.Core.Path.{sym, _∙_}
 use native.Mathlib.Omega.{arith}
 use borrow.Author.Needs.{needs}
-use Rattle.hecke.proofs.Layers.{size-two, one-whole}
+use Rattle.hecke.proofs.LowFactors.{size-two, letter-pre, one-whole}
 use Rattle.hecke.proofs.multiply.times_one.Statement.{statement}
 use Rattle.hecke.proofs.multiply.times_one.Tie as tie
 
-shared-slice-read-scale-into : tie.Need-shared-slice-read-scale-into
-shared-slice-read-scale-into c = omega (arith, c .before .before .before .before .before .before .pre .0 .right, size-two)
+-- ---- places: the start, and the three calls
 
-shared-slice-read-scale-into-2 : tie.Need-shared-slice-read-scale-into-2
-shared-slice-read-scale-into-2 c = let first = c .before .before .before .before in
-    let start = first .before .before .before .before .before .before .before in
-    omega (arith, start .pre .0 .right, size-two)
+abbrev start : tie.After-shared-slice-known3 → tie.Start
+start c = c .before .before .before .before .before
+
+abbrev first : tie.After-letter-arg → tie.After-scale-into
+first c = c .before .before .before
+
+abbrev second : tie.After-shared-slice-known4 → tie.After-letter
+second c = c .before .before .before .before
+
+-- ---- the needs
+
+shared-slice-read-scale-into : tie.Need-shared-slice-read-scale-into
+shared-slice-read-scale-into c = omega (arith, start c .pre .right, size-two)
+
+letter-requires : tie.Need-letter-requires
+letter-requires c κs = let y = first c in letter-pre (start (y .before) .pre) (y .scale-into .kept .0)
+
+shared-slice-read-add-multiple : tie.Need-shared-slice-read-add-multiple
+shared-slice-read-add-multiple c = omega (arith, start (first (second c .before) .before) .pre .right, size-two)
+
+add-multiple-requires : tie.Need-add-multiple-requires
+add-multiple-requires c κs =
+    let z = second c in let y = first (z .before) in let s = start (y .before) in
+    z .letter .kept .0 ∙ y .scale-into .kept .0 ∙ s .pre .result ∙ sym (s .pre .left)
 
 returns : tie.Need-returns
 returns c =
-    let finish = c .before .before in
-    let letter = finish .before .before .before .before .before in
-    let second = letter .before .before .before .before in
-    let first = second .before .before .before .before .before in
-    let start = first .before .before .before .before .before .before .before in
-    one-whole (start .args .q) (start .args .r) (start .pre .0) (start .pre .1) (first .scale-into .kept .0) (first .scale-into .ensures)
-    (second .scale-into2 .ensures) (letter .letter .ensures) (letter .letter .kept .0 ∙ second .scale-into2 .kept .0) (finish .finish .ensures)
+    let sum = c .before .before in let z = second (sum .before) in let y = first (z .before) in let s = start (y .before) in
+    one-whole (s .pre) (s .args .p) (y .scale-into .kept .0) (y .scale-into .ensures) (z .letter .ensures) (sum .add-multiple .ensures)
 
 pub times-one-spec : {M : Type 1} → statement M
 times-one-spec =
     tie.close
-    (tie.spec (λ c. search needs) (λ c. search needs) (λ c. search needs) shared-slice-read-scale-into (λ c κs. search needs)
-    shared-slice-read-scale-into-2 (λ c κs. search needs) (λ c κs. search needs) (λ c κs. search needs) (λ c. search needs) (λ c. search needs) returns)
+    (tie.spec shared-slice-read-scale-into (λ c κs. search needs) letter-requires shared-slice-read-add-multiple add-multiple-requires (λ c. search needs)
+    returns)
