@@ -11,8 +11,8 @@ use Rattle.lists.proofs.Test.{less-yes, less-no, less-true}
 use Rattle.refusals.specs.Refusals.{_then_}
 use Rattle.refusals.specs.declared.Verdict.the-variants.{Accepted}
 use Rattle.refusals.proofs.Ended.{ended-done}
-use Rattle.perms.specs.Permutation.{product, generator, len}
-use Rattle.perms.specs.Tower.{Tower, standard, imagesOf, descent, mask, number}
+use Rattle.perms.specs.Permutation.{product, generator, len, descent}
+use Rattle.perms.specs.Tower.{Tower, standard, imagesOf, mask, number}
 use Rattle.perms.proofs.Lengths.{len-imagesOf, length-standard}
 use Rattle.perms.proofs.Mask.{mask-lt, ones-mask, number-tally, mask-set}
 use Rattle.perm_calls.specs.Calls.{towerVerdict, room, standardWordCall, descentsCall}

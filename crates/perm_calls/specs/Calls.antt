@@ -25,8 +25,8 @@ use Rattle.refusals.specs.Refusals.{_then_, unless, Report, reported, Outcome, 
 use Rattle.refusals.specs.declared.Refusal.the-variants.{Length, Image, Entry, Buffer}
 use Rattle.refusals.specs.declared.Verdict.{Verdict}
 use Rattle.refusals.specs.declared.Verdict.the-variants.{Accepted, Refused}
-use Rattle.perms.specs.Permutation.{product, inverse, len}
-use Rattle.perms.specs.Tower.{towerOf, standard, imagesOf, descent, mask, number}
+use Rattle.perms.specs.Permutation.{product, inverse, len, descent}
+use Rattle.perms.specs.Tower.{towerOf, standard, imagesOf, mask, number}
 use Rattle.perm_calls.specs.declared.Counted.{Counted}
 use Rattle.perm_calls.specs.declared.Counted.the-variants as C
 use Rattle.perm_calls.specs.declared.Generators.{Generators}

@@ -1,4 +1,4 @@
--- Towers (document 01's word for inversion tables), standard words and masks (document 01, "Permutations and towers"). Passes on `descent`.
+-- Towers (document 01's word for inversion tables), standard words and masks (document 01, "Permutations and towers").
 --
 --   above x w       how many elements of w exceed x
 --   entry j w       a_j: how many points before j + 1 have an image that exceeds that of j + 1
@@ -19,7 +19,6 @@ use Prim.Native.Nat.{ℕ, zero, suc, pred, _+_, _*_, _^_, _≤_}
 use lib.ListN.{length, getD, take}
 use Rattle.lists.specs.Lists.{less, bit, tally, range}
 use Rattle.perms.specs.Permutation.{image, product, identity, ofWord}
-pub use Rattle.perms.specs.Permutation.{descent}
 
 unfoldable pub above : ℕ → List ℕ → ℕ
 above x w = tally (λ y. less x y) w

@@ -12,7 +12,8 @@ use lib.ListN.{length, getD}
 use lib.Pow.{pow-mono}
 use Rattle.lists.specs.Lists.{less, bit}
 use Rattle.lists.proofs.Test.{byte-bit}
-use Rattle.perms.specs.Tower.{Tower, imagesOf, descent, mask}
+use Rattle.perms.specs.Permutation.{descent}
+use Rattle.perms.specs.Tower.{Tower, imagesOf, mask}
 use Rattle.perms.specs.Laws.{at}
 use Rattle.perms.proofs.Mask.{mask-lt}
 use Rattle.perms.proofs.Descent.{descent-tower}

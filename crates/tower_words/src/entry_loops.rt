@@ -4,7 +4,8 @@ ghost use mathlib.Core.Path.{_≡_};
 ghost use mathlib.Core.List.{_++_};
 ghost use Prim.Native.Nat.{_≤_};
 ghost use lib.ListN.{length, drop};
-ghost use Rattle.perms.specs.Tower.{Tower, cycle, standard, imagesOf, total, descent, mask};
+ghost use Rattle.perms.specs.Permutation.{descent};
+ghost use Rattle.perms.specs.Tower.{Tower, cycle, standard, imagesOf, total, mask};
 
 pub(crate) fn total(tower: &[u8]) -> usize
     requires { ⌜ length (now tower) ≤ 63 ⌝ }

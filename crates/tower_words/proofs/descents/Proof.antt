@@ -2,7 +2,8 @@
 use mathlib.Core.Path.{sym, _∙_}
 use borrow.Author.Needs.{needs}
 use lib.ListN.{length}
-use Rattle.perms.specs.Tower.{imagesOf, descent}
+use Rattle.perms.specs.Permutation.{descent}
+use Rattle.perms.specs.Tower.{imagesOf}
 use Rattle.perms.proofs.Mask.{ones-mask}
 use Rattle.perm_calls.specs.Calls.{descentsCall}
 use Rattle.perm_calls.proofs.Verdicts.{tower-accepted}

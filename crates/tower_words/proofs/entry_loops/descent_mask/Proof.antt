@@ -3,7 +3,8 @@ use mathlib.Core.Path.{_≡_, ap, _∙_}
 use Prim.Native.Nat.{_-_, _≤_}
 use native.Mathlib.Omega.{arith}
 use lib.ListN.{length}
-use Rattle.perms.specs.Tower.{imagesOf, descent, mask}
+use Rattle.perms.specs.Permutation.{descent}
+use Rattle.perms.specs.Tower.{imagesOf, mask}
 use Rattle.tower_words.proofs.Bitmask.{Masked, masked-none, masked-fits, masked-more}
 use Rattle.tower_words.proofs.entry_loops.descent_mask.Statement.{statement}
 use Rattle.tower_words.proofs.entry_loops.descent_mask.Tie as tie
