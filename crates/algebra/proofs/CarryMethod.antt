@@ -12,6 +12,7 @@ use Rattle.algebra.specs.Method.{Proposition3-2, Method}
 use Rattle.algebra.specs.Maps.{mapped, Maps}
 use Rattle.algebra.proofs.NestedMaps.{maps}
 use Rattle.algebra.proofs.Onto.{any, Onto, every, every2, elements}
+use Rattle.algebra.proofs.OnPairs.{letter-onPairs}
 
 module _ {A B : Type 0} {o : Ops A} {p : Ops B} {f : A → B} (H : Hom A B o p f) (q r : A) {ok : B → Type 0} (s : Onto f any ok) (m : ℕ) where
   M : Maps A B o p f q r
@@ -24,6 +25,7 @@ module _ {A B : Type 0} {o : Ops A} {p : Ops B} {f : A → B} (H : Hom A B o p f
   carry-formula F = record {
     basis-letter = λ i w l c. simp (M .letter, M .basis, M .basisLetter) at (ap (map f) (F .basis-letter i w l c));
     linear = λ i l. every (E m) _ (λ h a. simp (M .letter, M .sumOver, M .scale, M .coefficient, M .basisLetter) at (ap (map f) (F .linear i l h a)));
+    on-pairs = λ i h. letter-onPairs B p (f q) (f r) m i h;
   }
 
   carry-proposition : (j l : ℕ) (h : List A) → Proposition3-2 A o q r m j l h → Proposition3-2 B p (f q) (f r) m j l (map f h)

@@ -23,6 +23,7 @@ use Rattle.algebra.proofs.Words.{Rw, R-cong, Rw-comb}
 use Rattle.algebra.proofs.Reduced.{R-delta}
 use Rattle.algebra.proofs.Relations.{quadratic}
 use Rattle.algebra.proofs.Elements.{Has, has-own, has-basis, has-eq, has-scale, has-plus, has-act, has-sumOver, equal-elements}
+use Rattle.algebra.proofs.OnPairs.{letter-onPairs}
 
 module _ (A : Type 0) (o : Ops A) (q r : A) (𝓡 : Ring A o) (m i : ℕ) (l : Letter m i) where
   has-letter : {h : List A} {F : List ℕ → A} → Has A o m h F → Has A o m (letter A o q r m i h) (R A o q r i F)
@@ -63,4 +64,5 @@ formula A o q r 𝓡 ok m = record {
   linear = λ i l h a. equal-elements A o (has-letter A o q r 𝓡 m i l (has-own A o (a .size)))
       (has-sumOver A o (perms m) (λ w t. has-scale A o (has-basisLetter A o q r 𝓡 m i l w (all-member (Perm m) t (perms-perm m))) (coefficient A o h w)))
       (R-sum A o q r 𝓡 m i l (coefficient A o h));
+  on-pairs = λ i h. letter-onPairs A o q r m i h;
 }

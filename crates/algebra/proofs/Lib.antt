@@ -54,8 +54,8 @@ pub mod LowRanks
 pub mod NestedLetter
 -- maps of operations
 pub mod Maps
-pub mod NestedMaps
 pub mod PairMaps
+pub mod NestedMaps
 pub mod Onto
 pub mod Carry
 pub mod CarryMethod

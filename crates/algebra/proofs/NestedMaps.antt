@@ -1,4 +1,4 @@
--- The nested method commutes with a map of ring operations, value and count; so every definition does. Rests on Maps, ring's Hom and lists' Blocks.
+-- The nested method commutes with a map of ring operations, value and count; so every definition does. Rests on Maps, PairMaps, ring's Hom and lists' Blocks.
 use mathlib.Core.Path.{_≡_, refl, sym, ap, ap₂, _∙_, fun-ext}
 use mathlib.Core.List.{List, map, map-append}
 use Prim.Native.Nat.{ℕ, zero, suc, _+_, _-_}
@@ -12,6 +12,7 @@ use Rattle.algebra.specs.Element.{plus, scale}
 use Rattle.algebra.specs.Nested.{both, Counted, free, onward, _⧺_, row, _⊞_, _⊠_, sumRow, part, level, nestedAct, nested}
 use Rattle.algebra.specs.Maps.{mapped, Maps}
 use Rattle.algebra.proofs.Maps.{map-coefficient, map-element, map-plus, map-scale, map-sumOver, map-basis, map-unit, map-T, map-minusOne, map-basisLetter, map-letter, map-act, map-times, map-power, map-pairing}
+use Rattle.algebra.proofs.PairMaps.{forward-along, map-onPairs}
 
 -- ---- rows
 
@@ -125,6 +126,8 @@ module _ {A B : Type 0} {o : Ops A} {p : Ops B} {f : A → B} (H : Hom A B o p f
       letter = map-letter H q r;
       act = map-act H q r;
       times = map-times H q r;
+      forward = forward-along H q r;
+      onPairs = λ F G e. map-onPairs H e;
       power = map-power H;
       pairing = map-pairing H q;
       counted-sum = map-⊞;

@@ -1,6 +1,4 @@
 -- Operators on pairs commute with a map of ring operations that takes the one operator to the other. Rests on Maps and lists' Blocks.
---
---   Along k f g    the map k takes the operator f to g
 use mathlib.Core.Path.{_≡_, refl, ap, ap₂, _∙_, fun-ext}
 use mathlib.Core.List.{List, [], _∷_, _++_, map, map-append}
 use Prim.Native.Nat.{ℕ}
@@ -11,20 +9,17 @@ use Rattle.lists.proofs.Blocks.{map-take, map-drop}
 use Rattle.perms.specs.Permutation.{product, generator, len}
 use Rattle.algebra.specs.Element.{coefficient, element}
 use Rattle.algebra.specs.Pairs.{OnPair, forward, onPairs, zipped, exchanged}
+use Rattle.algebra.specs.Maps.{Along}
 use Rattle.algebra.proofs.Maps.{map-cond, map-coefficient, map-element}
 
 module _ {A B : Type 0} (k : A → B) where
-  pub record Along (f : OnPair A) (g : OnPair B) : Type 0 where
-    pub shorter : (s t : A) → k (f .shorter s t) ≡ g .shorter (k s) (k t)
-    pub longer : (s t : A) → k (f .longer s t) ≡ g .longer (k s) (k t)
-
   map-zipped : (f : A → A → A) (g : B → B → B) → ((s t : A) → k (f s t) ≡ g (k s) (k t)) → (x y : List A) → map k (zipped f x y) ≡ zipped g (map k x) (map k y)
   unfolding zipped
   map-zipped f g e [] y = refl
   map-zipped f g e (s ∷ x) [] = refl
   map-zipped f g e (s ∷ x) (t ∷ y) = ap₂ {C = List B} (λ u v. u ∷ v) (e s t) (map-zipped f g e x y)
 
-  pub map-exchanged : {f : OnPair A} {g : OnPair B} → Along f g → (b : ℕ) (x : List A) → map k (exchanged f b x) ≡ exchanged g b (map k x)
+  pub map-exchanged : {f : OnPair A} {g : OnPair B} → Along k f g → (b : ℕ) (x : List A) → map k (exchanged f b x) ≡ exchanged g b (map k x)
   unfolding exchanged
   map-exchanged {f} {g} c b x =
       let s = take b x in

@@ -2,7 +2,7 @@
 --
 --   Order m           `perms m` are the permutations of rank m, each at its place; an element of rank m + 1 is m + 2 blocks of (m + 1)! coefficients,
 --                     and block k, an element of rank m, has at u the coefficient that stands at u a(m + 1, k)
---   Formula           formula 3.1: what T_i makes of T_w; and h T_i is the sum over w of h_w T_w T_i
+--   Formula           formula 3.1: what T_i makes of T_w; h T_i is the sum over w of h_w T_w T_i; and formula 4.1 as an operator on pairs of coefficients
 --   Calls A           four calls: product, sum, scaling, action of a word
 --   defined m         the definitions as such calls, on elements of rank m
 --   Closed calls      basis elements are elements of rank m, and the calls make elements of elements
@@ -23,6 +23,7 @@ use Rattle.perms.specs.Permutation.{Perm, Letter, Shortest}
 use Rattle.algebra.specs.Place.{place, join, perms}
 use Rattle.algebra.specs.Element.{Element, coefficient, plus, scale, sumOver, basis, unit, T}
 use Rattle.algebra.specs.Product.{basisLetter, letter, act, times}
+use Rattle.algebra.specs.Pairs.{forward, onPairs}
 
 -- ---- the order of the coefficients
 
@@ -42,6 +43,7 @@ pub record Formula (A : Type 0) (o : Ops A) (q r : A) (ok : A → Type 0) (m : �
   pub basis-letter : (i : ℕ) (w : List ℕ) → Letter m i → Perm m w → letter A o q r m i (basis A o m w) ≡ basisLetter A o q r m i w
   pub linear : (i : ℕ) → Letter m i → (h : List A) → Element ok m h
       → letter A o q r m i h ≡ sumOver A o m (perms m) (λ w. scale A o (coefficient A o h w) (basisLetter A o q r m i w))
+  pub on-pairs : (i : ℕ) (h : List A) → letter A o q r m i h ≡ onPairs A o (forward A o q r) m i h
 
 -- ---- the algebra
 

@@ -57,24 +57,18 @@ write v old new n = ended v refused (accepted n) old new
 unfoldable pub sumCall : (m : ℕ) (h g result : List ℕ) → Outcome Answer (List ℕ)
 sumCall m h g result =
     write (rankVerdict m then sizeVerdict m (length h) then sizeVerdict m (length g) then sizeVerdict m (length result))
-    result
-    (plus ℕ words h g)
-    (factorial (suc m))
+    result (plus ℕ words h g) (factorial (suc m))
 
 unfoldable pub scaleCall : (m c : ℕ) (h result : List ℕ) → Outcome Answer (List ℕ)
 scaleCall m c h result =
     write (rankVerdict m then sizeVerdict m (length h) then sizeVerdict m (length result))
-    result
-    (scale ℕ words c h)
-    (factorial (suc m))
+    result (scale ℕ words c h) (factorial (suc m))
 
 unfoldable pub actWordCall : (m q : ℕ) (x h : List ℕ) → Outcome Answer (List ℕ)
 actWordCall m q x h =
     let p = parametersOf q in
     write (rankVerdict m then sizeVerdict m (length h) then wordVerdict m x)
-    h
-    (act ℕ (ring p) (p .q) (p .r) m x h)
-    (length x * (3 * factorial (suc m) / 2))
+    h (act ℕ (ring p) (p .q) (p .r) m x h) (length x * (3 * factorial (suc m) / 2))
 
 unfoldable pub productCall : (m q : ℕ) (h g result scratch : List ℕ) → Outcome Answer Buffers
 productCall m q h g result scratch =
