@@ -84,6 +84,17 @@ static void letter(word *x, size_t m, size_t j, algebra a) {
     }
 }
 
+/* x T_a(2,2) in the place of x, of rank 2. */
+static inline void cycle_of_rank_two(word *x, algebra a) {
+    word s = x[2], t = x[3], u = a.q * x[5], v = x[4] + a.r * x[5];
+    x[4] = x[0] + a.r * (s + u);
+    x[5] = x[1] + a.r * (t + v);
+    x[0] = a.q * (a.q * t);
+    x[1] = a.q * (s + a.r * t);
+    x[2] = a.q * u;
+    x[3] = a.q * v;
+}
+
 static void cycle(word *restrict x, word *restrict work, size_t m, size_t j, size_t l, algebra a);
 
 /* x T_a(j,l) in the place of x, of rank m. */
@@ -114,6 +125,10 @@ static inline void middle(word *restrict x, word *restrict sum, size_t m, size_t
 
 /* x T_a(j,l) in the place of x, of rank m, for l of at least 2. */
 static void cycle(word *restrict x, word *restrict work, size_t m, size_t j, size_t l, algebra a) {
+    if (m == 2) {
+        cycle_of_rank_two(x, a);
+        return;
+    }
     size_t b = factorial[m];
     for (size_t k = j; k < m; k++, x += b)
         cycle(x, work, m - 1, j, l, a);

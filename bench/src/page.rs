@@ -21,9 +21,9 @@ const TERMS: &str = "
   no case of its own for ranks 1 and 2, as the library has; this is why the library is the faster of the two. For towers,
   plain Rust with the same checks, where larger images are counted in a mask of those seen, `bench/src/towers.rs`. For sheets,
   the runner of `rust/plain` by this method.
-- **C**: the same nested method in C tuned by hand, `bench/c/nested.c`, with the library's cases of their own for letters and for
-  ranks 1 and 2, and with no checks. It is compiled by cc and by clang with -O3 for any x86-64 processor, as the archive is; both
-  take part, and the faster is shown.
+- **C**: the same nested method in C tuned by hand, `bench/c/nested.c`, with the library's cases of their own (letters in place;
+  letters and T_a(2,2) at ranks 1 and 2; a right factor of rank 1) and with no checks. It is compiled by cc and by clang with -O3
+  for any x86-64 processor, as the archive is; both take part, and the faster is shown.
 - **(b)**: formula 4.4 on plain lists, `bench/src/lists.rs`: each T_v acts through its whole word, as source document 000
   counts. The places of w and ws, and the words, are in tables made before the clock starts; `rust/plain`, written to be read,
   makes words and lists anew for each v. For sheets (b) is `rust/plain` as it is, its tables timed.
@@ -44,16 +44,21 @@ pipes are timed. Ratios are those of the least times.
 Read off the archive, which is for any x86-64 processor:
 
 - No loop has a bounds check, and `ring::mul`, written by halves of 32 bits, is one multiplication instruction.
-- One letter at rank 2, on which most of the recursion ends, is straight code of six multiplications and three additions. On
-  larger blocks the loop has two multiplications and one addition for each pair of words, and no call.
-- The sum of the parts and the shift of blocks go up through their slices and become vector code, two words at a time, in
-  which a product of words is three products of 32 bits. Sums of elements are vector code too. Scaling goes down and takes one
-  multiplication a word.
+- Of the recursion three functions are left, `letter`, `level` and `times`; all others stand in the places where they are called.
+- One letter at rank 2, on which most of the recursion ends, is straight code of six multiplications and three additions, in a
+  loop over the blocks of rank 2. On larger blocks the loop has two multiplications and one addition for each pair of words, and
+  no call. T_a(2,2) at rank 2 is straight code too.
+- Sums of blocks and of elements go up through their slices and become vector code, two words at a time. Scaling, and the move of a
+  block times q, go down and take one multiplication a word.
 - The check of an image list and the making of a tower have a shift, a test or an addition for each image; the set bits are
   counted by shifts, masks and a multiplication, since not every such processor has an instruction for it.
 - The images of a tower are made by vector code, 16 bytes at a time.
-- The functions of the recursion take more slices and numbers than there are registers for them, so that some pass through
-  memory, and the size of a block is a jump at each level.
+- A slice passes through memory, as an address and a length, and so does what finds no register. Loops over two slices are made
+  twice by the compiler, for slices that overlap and for those that do not, since it is not told that they do not. The size of a
+  block is a jump at each level of `level` and `letter`.
+- C does without one thing that the library has to do: where a product's sum over three blocks or more begins, the library makes
+  the first summand in the result and copies it, and C makes it in the scratch. To save the copy, two parts of one slice would have
+  to be lent at the same time.
 ";
 
 fn time(times: Option<&Times>) -> String {
@@ -136,6 +141,13 @@ pub fn aims(rows: &[Row]) -> String {
         ("image list to tower: library / (a) at most 1.5 at each size", to_tower, to_tower <= 1.5),
         ("tower to image list: library / (a) at most 1.5 at each size", to_images, to_images <= 1.5),
     ];
+    let beside_c = |size: &str| {
+        let row = rows.iter().find(|row| (row.call, row.size.as_str()) == ("product", size)).unwrap();
+        row.ratio("library", "C").unwrap()
+    };
+    let (three, high) = (beside_c("rank 3"), beside_c("rank 5").max(beside_c("rank 6")));
+    aims.push(("product of rank 3: library / C at most 1.15", three, three <= 1.15));
+    aims.push(("product of ranks 5 and 6: library / C at most 1.03", high, high <= 1.03));
     if cfg!(before) {
         let (product, word) = (largest("product", "before"), largest("word of 100 letters", "before"));
         aims.push(("product: library / before at most 1.02 at each rank", product, product <= 1.02));

@@ -93,7 +93,7 @@ module _ (t : ℕ) where
       (omega arith, step-pre (at .i) (at .x) (at .work) pre (omega (arith, pre .below)) (omega (arith, pre .within)) (fits in-loop) (enough (in-loop .before)))
 
   collect-requires : lts.Need-collect-requires claims (middle-at t) middle.Post Inv-loop μ-loop
-  collect-requires c κs = let a = lent c in (omega (arith, enough-2 a), fits-2 a)
+  collect-requires c κs = let a = lent c in (omega (arith, enough-2 a), omega (arith, fits-2 a))
 
   act-requires-2 : lts.Need-act-requires-2 claims (middle-at t) middle.Post Inv-loop μ-loop
   act-requires-2 c κs =
