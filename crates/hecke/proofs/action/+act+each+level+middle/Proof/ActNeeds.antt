@@ -31,27 +31,36 @@ module _ (t : ℕ) where
   abbrev claims : lts.Claims
   claims = (letter-reads.Asked, letter-reads.Learnt, level-below t, level.Post)
 
-  -- where both tests are done
-  abbrev tested : lts.After-level claims (act-at t) act.Post → lts.Else2 claims (act-at t) act.Post
-  tested c = c .before .before .before
+  -- ---- places: the tests, and where the level is back
+
+  abbrev one : lts.Then1 claims (act-at t) act.Post → lts.Start claims (act-at t) act.Post
+  one c = c .before .before .before
+
+  abbrev not-one : lts.Else1 claims (act-at t) act.Post → lts.Start claims (act-at t) act.Post
+  not-one c = c .before .before .before
+
+  abbrev levelled : lts.After-slice-known5 claims (act-at t) act.Post → lts.After-level claims (act-at t) act.Post
+  levelled c = c .before .before .before .before
+
+  -- ---- what the calls require, and what is returned
 
   letter-requires : lts.Need-letter-requires claims (act-at t) act.Post
-  letter-requires c κs = let test = c .before in letter-pre (test .before .before .before .pre .1) (test .if1 .taken)
+  letter-requires c κs = let test = c .before in letter-pre (one test .pre .1) (test .if1 .taken)
 
   returns : lts.Need-returns claims (act-at t) act.Post
   returns c =
-      let after = c .before .before in let test = after .before .before in let start = test .before .before .before in
+      let after = c .before .before in let test = after .before .before in let start = one test in
       letter-acted (start .args .p) (start .pre .1) (test .if1 .taken) (after .letter .ensures)
 
   returns-2 : lts.Need-returns-2 claims (act-at t) act.Post
   returns-2 c =
-      let u = c .before .before .before .before .args in
+      let u = not-one (c .before) .args in
       sym (ap (λ n. acted (u .p) (u .m) (u .j) n (u .x .now)) (c .if2 .taken) ∙ acted-none (u .p) (u .m) (u .j) (u .x .now))
 
   level-requires : lts.Need-level-requires claims (act-at t) act.Post
   level-requires c κs =
-      let tests = c .before .before in let start = tests .before .before .before .before in
-      (omega arith, record { act = start .pre .1; more = omega (arith, tests .before .if1 .left, tests .if2 .left) })
+      let tests = c .before .before in
+      (omega arith, record { act = not-one (tests .before) .pre .1; more = omega (arith, tests .before .if1 .left, tests .if2 .left) })
 
   pub act-closed : {M : Type 1} → lts.Closed claims (act-at t) act.Post M
   act-closed =
@@ -61,6 +70,6 @@ module _ (t : ℕ) where
       returns
       returns-2
       level-requires
-      (λ c. c .before .before .before .before .level .kept .0)
-      (λ c. c .before .before .before .before .level .kept .1 .0)
-      (λ c. c .before .before .before .before .level .ensures)
+      (λ c. levelled c .level .kept .0)
+      (λ c. levelled c .level .kept .1 .0)
+      (λ c. levelled c .level .ensures)

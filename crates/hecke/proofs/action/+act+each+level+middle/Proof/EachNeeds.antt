@@ -23,27 +23,30 @@ module _ (t : ℕ) where
 
   -- ---- places
 
-  abbrev start : lts.In-loop claims (each-at t) each.Post Inv-loop μ-loop → lts.Start claims (each-at t) each.Post Inv-loop μ-loop
-  start c = c .before .before .before .before
+  abbrev start : lts.At-loop claims (each-at t) each.Post Inv-loop μ-loop → lts.Start claims (each-at t) each.Post Inv-loop μ-loop
+  start c = c .before .before .before
 
   abbrev step : lts.After-level claims (each-at t) each.Post Inv-loop μ-loop → lts.In-loop claims (each-at t) each.Post Inv-loop μ-loop
   step c = c .before .before .before
+
+  abbrev levelled : lts.After-slice-known4 claims (each-at t) each.Post Inv-loop μ-loop → lts.After-level claims (each-at t) each.Post Inv-loop μ-loop
+  levelled c = c .before .before .before .before
 
   -- ---- the needs
 
   -- the loop's block is within x
   fits : (c : lts.In-loop claims (each-at t) each.Post Inv-loop μ-loop)
-      → let b = start c .args .b in c .before .loop .k * b + b ≤ length (c .before .loop .x)
+      → let b = start (c .before) .args .b in c .before .loop .k * b + b ≤ length (c .before .loop .x)
   fits c =
-      let at = c .before .loop in let s = start c in
+      let at = c .before .loop in let s = start (c .before) in
       fits-block (at .k) (s .args .n) (s .args .b) (length (at .x)) (c .loop-test .taken) (omega (arith, at .inv .2 .same, s .pre .1 .size))
 
   level-requires : lts.Need-level-requires claims (each-at t) each.Post Inv-loop μ-loop
   level-requires c κs =
       let in-loop = c .before .before in
       let at = in-loop .before .loop in
-      let pre = start in-loop .pre .1 in
-      let some : 1 ≤ start in-loop .args .n = omega arith in (
+      let pre = start (in-loop .before) .pre .1 in
+      let some : 1 ≤ start (in-loop .before) .args .n = omega arith in (
         omega arith,
         record {
           act = record {
@@ -59,7 +62,7 @@ module _ (t : ℕ) where
 
   loop-again : lts.Need-loop-again claims (each-at t) each.Post Inv-loop μ-loop
   loop-again c =
-      let after = c .before .before .before .before in
+      let after = levelled c in
       let at = step after .before .loop in (
         omega arith,
         after .level .kept .1 .0 ∙ at .inv .1,
@@ -68,7 +71,7 @@ module _ (t : ℕ) where
 
   returns : lts.Need-returns claims (each-at t) each.Post Inv-loop μ-loop
   returns c =
-      let at = c .before .loop in let s = c .before .before .before .before in
+      let at = c .before .loop in let s = start (c .before) in
       let k : at .k ≡ s .args .n = omega arith in
       passed-all (subst (Passed _ _ _ _) k (at .inv .2)) (s .pre .1 .size)
 

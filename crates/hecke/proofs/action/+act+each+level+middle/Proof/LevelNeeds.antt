@@ -51,7 +51,13 @@ module _ (t : ℕ) where
   abbrev third : lts.After-each2 claims (level-at t) level.Post → lts.After-middle claims (level-at t) level.Post
   third c = c .before .before .before .before .before .before .before
 
-  -- the first part is back, and known to be
+  abbrev two : lts.After-slice-known4 claims (level-at t) level.Post → lts.After-level-of-rank-two claims (level-at t) level.Post
+  two c = c .before .before .before .before
+
+  abbrev not-two : lts.Else1 claims (level-at t) level.Post → lts.Start claims (level-at t) level.Post
+  not-two c = c .before .before .before
+
+  -- the same, from where their sizes are known
   abbrev back-1 : lts.After-slice-known6 claims (level-at t) level.Post → lts.After-each claims (level-at t) level.Post
   back-1 c = c .before .before .before .before
 
@@ -68,7 +74,7 @@ module _ (t : ℕ) where
 
   returns : lts.Need-returns claims (level-at t) level.Post
   returns c =
-      let after = c .before .before .before .before in let test = after .before .before .before in let s = test .before .before .before in
+      let after = two c in let test = after .before .before .before in let s = test .before .before .before in
       two-acted (s .args .p) (s .pre .1) (test .if1 .taken) (after .level-of-rank-two .ensures)
 
   -- ---- three parts
@@ -122,11 +128,11 @@ module _ (t : ℕ) where
   level-closed =
       lts.spec claims (level-at t) level.Post
       two-requires
-      (λ c. c .before .before .before .before .level-of-rank-two .kept .0)
-      (λ c. c .before .before .before .before .level-of-rank-two .kept .1 .0)
+      (λ c. two c .level-of-rank-two .kept .0)
+      (λ c. two c .level-of-rank-two .kept .1 .0)
       returns
-      (λ c. omega (arith, c .before .before .before .pre .1 .more, c .before .before .before .pre .1 .act .below, c .before .before .before .pre .1 .act .within))
-      (λ c κs. omega (arith, c .before .before .before .pre .1 .act .rank))
+      (λ c. omega (arith, not-two c .pre .1 .more, not-two c .pre .1 .act .below, not-two c .pre .1 .act .within))
+      (λ c κs. omega (arith, not-two c .pre .1 .act .rank))
       (λ c. omega (arith, start c .pre .1 .act .below))
       (λ c. omega (arith, inside c))
       (λ c. omega (arith, inside c))

@@ -48,6 +48,9 @@ module _ (t : ℕ) where
   abbrev moved : lts.After-slice-known9 claims (middle-at t) middle.Post Inv-loop μ-loop → lts.After-shift claims (middle-at t) middle.Post Inv-loop μ-loop
   moved c = c .before .before .before .before
 
+  abbrev ended : lts.After-shift claims (middle-at t) middle.Post Inv-loop μ-loop → lts.At-loop claims (middle-at t) middle.Post Inv-loop μ-loop
+  ended c = c .before .before .before .before
+
   -- x when the first action is back
   abbrev acted-on : lts.After-act claims (middle-at t) middle.Post Inv-loop μ-loop → List ℕ
   acted-on c =
@@ -115,14 +118,14 @@ module _ (t : ℕ) where
       (at .loop .inv .1 .done .same ∙ start at .pre .1 .size, omega (arith, enough at))
 
   same-length : lts.Need-same-length claims (middle-at t) middle.Post Inv-loop μ-loop
-  same-length c = let s = moved c in s .shift .kept .0 ∙ s .before .before .before .before .loop .inv .1 .done .same
+  same-length c = let s = moved c in s .shift .kept .0 ∙ ended s .loop .inv .1 .done .same
 
   same-length-2 : lts.Need-same-length-2 claims (middle-at t) middle.Post Inv-loop μ-loop
-  same-length-2 c = let s = moved c in s .shift .kept .1 .0 ∙ s .before .before .before .before .loop .inv .1 .same
+  same-length-2 c = let s = moved c in s .shift .kept .1 .0 ∙ ended s .loop .inv .1 .same
 
   returns : lts.Need-returns claims (middle-at t) middle.Post Inv-loop μ-loop
   returns c =
-      let s = moved c in let at = s .before .before .before .before in let u = start at .args in
+      let s = moved c in let at = ended s in let u = start at .args in
       let all : at .loop .i ≡ u .l = omega (arith, s .before .before .before .loop-test .left) in
       gathered-all (omega (arith, start at .pre .1 .more)) (start at .pre .1 .size)
       (subst (Gathered (u .p) (u .m) (u .j) (u .l) (u .b) (u .x .now) (at .loop .x) (u .work .now) (at .loop .work)) all (at .loop .inv .1))
