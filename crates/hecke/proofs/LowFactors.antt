@@ -1,4 +1,4 @@
--- A right factor of rank 0 or 1: h g is g_0 h, or g_0 h + (g_1 h) T_1. Rests on Summands and Pieces, word_lists' Into and algebra's NestedLetter.
+-- A right factor of rank 0 or 1: h g is g_0 h, or g_0 h + (g_1 h) T_1. Rests on Summands and Pieces, and algebra's NestedLetter.
 use mathlib.Core.Path.{_≡_, refl, sym, ap, ap₂, subst, _∙_}
 use mathlib.Core.List.{List}
 use Prim.Native.Nat.{ℕ, zero, suc, _+_, _*_}
@@ -11,17 +11,11 @@ use Rattle.lists.specs.Blocks.{block}
 use Rattle.algebra.specs.Element.{plus, scale}
 use Rattle.algebra.specs.Nested.{free, _⊠_, nested}
 use Rattle.algebra.proofs.NestedLetter.{nested-letter}
-use Rattle.word_lists.specs.Into.{scaleInto}
-use Rattle.word_lists.proofs.Into.{scale-into}
 use Rattle.element_calls.specs.declared.Parameters.{Parameters}
-use Rattle.element_calls.specs.Coefficients.{modulus, ring}
+use Rattle.element_calls.specs.Coefficients.{ring}
 use Rattle.hecke.specs.Steps.{sums, lettered, acted, multiplied, LetterPre, FactorsPre, TimesPre}
 use Rattle.hecke.proofs.Pieces.{acted-none}
 use Rattle.hecke.proofs.Summands.{multiplied-suc}
-
-scaled : (p : Parameters) (d : List ℕ) (c : ℕ) (s : List ℕ) → length d ≡ length s → scaleInto d c s ≡ scale ℕ (ring p) c s
-unfolding modulus
-scaled p d c s e = scale-into d c s e
 
 -- ---- of rank 0
 
@@ -29,14 +23,10 @@ pub size-one : (l : ℕ) → l ≡ 0 → factorial (suc l) ≡ 1
 unfolding factorial
 size-one l e = ap (λ (n : ℕ). factorial (suc n)) e
 
-multiplied-zero : (p : Parameters) (m l : ℕ) (h g : List ℕ) → l ≡ 0 → scale ℕ (ring p) (getD g 0 0) h ≡ multiplied p m l h g
+pub multiplied-zero : (p : Parameters) (m l : ℕ) (h g : List ℕ) → l ≡ 0 → scale ℕ (ring p) (getD g 0 0) h ≡ multiplied p m l h g
 unfolding multiplied nested _⊠_ free modular
 multiplied-zero p m zero h g e = refl
 multiplied-zero p m (suc l) h g e = absurd (omega arith)
-
-pub zero-whole : (p : Parameters) {m l : ℕ} {result h g y : List ℕ} → FactorsPre m l result h g → l ≡ 0 → y ≡ scaleInto result (getD g 0 0) h
-    → y ≡ multiplied p m l h g
-zero-whole p {m} {l} {result} {h} {g} c none e = e ∙ scaled p result _ h (c .result ∙ sym (c .left)) ∙ multiplied-zero p m l h g none
 
 -- ---- of rank 1
 
@@ -73,8 +63,8 @@ module _ {m : ℕ} {result h g : List ℕ} (c : FactorsPre m 1 result h g) where
   pub letter-pre : {y : List ℕ} → length y ≡ length result → LetterPre m 1 y
   letter-pre e = record { rank = c .rank; letter = record { low = omega arith; high = c .within }; size = e ∙ c .result }
 
-  pub one-whole : (p : Parameters) {y z t : List ℕ} → length y ≡ length result → y ≡ scaleInto result (getD g 1 0) h → z ≡ lettered p m 1 y
+  pub one-whole : (p : Parameters) {y z t : List ℕ} → length y ≡ length result → y ≡ scale ℕ (ring p) (getD g 1 0) h → z ≡ lettered p m 1 y
       → t ≡ plus ℕ (ring p) (scale ℕ (ring p) (getD g 0 0) h) z → t ≡ multiplied p m 1 h g
   one-whole p ly ey ez e =
-      let second = ez ∙ letter-acted p (letter-pre ly) ∙ ap (acted p m 1 1) (ey ∙ scaled p result _ h (c .result ∙ sym (c .left))) in
+      let second = ez ∙ letter-acted p (letter-pre ly) ∙ ap (acted p m 1 1) ey in
       e ∙ ap (plus ℕ (ring p) (scale ℕ (ring p) (getD g 0 0) h)) second ∙ sym (multiplied-one p m h g)

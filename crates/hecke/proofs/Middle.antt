@@ -33,7 +33,7 @@ module _ (p : Parameters) (b : ℕ) (w u₁ w₂ u₂ : List ℕ) (s₁ : length
 
   work-sum : (i : ℕ) (y : List ℕ) → b + b ≤ length w → take b w₂ ≡ collected p i (take b (putMid b (length w - b) w u₁)) y
       → take b (putMid b (length w₂ - b) w₂ u₂) ≡ collected p i (take b w) y
-  work-sum i y room e =
+  work-sum i y enough e =
       let size : length w₂ ≡ length w = s ∙ same-len-mid b (length w - b) w u₁ s₁ in
       take-put b (length w₂ - b) w₂ u₂ (omega arith) ∙ e ∙ ap (λ (v : List ℕ). collected p i v y) (take-put b (length w - b) w u₁ (omega arith))
 
@@ -41,7 +41,7 @@ module _ (p : Parameters) (b : ℕ) (w u₁ w₂ u₂ : List ℕ) (s₁ : length
 
 pub step-pre : {m b j l j′ l′ : ℕ} {x₀ w₀ : List ℕ} (i : ℕ) (x w : List ℕ) → MiddlePre m b j l x₀ w₀ → j′ ≤ m → l′ ≤ j′
     → (i + 1) * b + b ≤ length x → b + b ≤ length w → ActPre m j′ l′ (midOf ((i + 1) * b) ((i + 1) * b + b - (i + 1) * b) x) (midOf b (length w - b) w)
-step-pre {b = b} i x w p below within fits room = record {
+step-pre {b = b} i x w p below within fits enough = record {
   rank = omega (arith, p .rank);
   below = below;
   within = within;
@@ -113,13 +113,13 @@ module _ {p : Parameters} {m j l b : ℕ} {x₀ x w₀ w : List ℕ} {i : ℕ} (
     pub gathered-more : (w₂ v₂ u₂ : List ℕ) → b + b ≤ length w → length w₂ ≡ length w₁ → take b w₂ ≡ collected p i (take b w₁) (block b (i + 1) x₁)
         → v₂ ≡ acted p m (j - (i + 1)) (l - (i + 1)) (midOf at n x₁) → length v₂ ≡ length (midOf at n x₁) → length u₂ ≡ length (midOf b (length w₂ - b) w₂)
         → Gathered p m j l b x₀ (putMid at n x₁ v₂) w₀ (putMid b (length w₂ - b) w₂ u₂) (i + 1)
-    gathered-more w₂ v₂ u₂ room s sum e₂ s₂ t₂ =
+    gathered-more w₂ v₂ u₂ enough s sum e₂ s₂ t₂ =
         let value : v₂ ≡ onBlock p m j l (i + 1) (midOf at n x) =
         e₂ ∙ ap (acted p m (j - (i + 1)) (l - (i + 1))) (back ∙ e₁) ∙ sym (onBlock-next p m j l i (midOf at n x)) in
         record {
           done = subst (λ (y : List ℕ). Passed b (onBlock p m j l) x₀ y (i + 1 + 1)) (sym (put-put at n x v₁ (omega arith) size-1 v₂))
               (passed-more v₂ (h .done) fits value (s₂ ∙ ap length back ∙ s₁));
-          sum = λ some. work-sum p b w u₁ w₂ u₂ t₁ s t₂ i (block b (i + 1) x₁) room sum ∙ collected-sums p 1 i (kept p m b j x₀) (h .sum) part-kept;
+          sum = λ some. work-sum p b w u₁ w₂ u₂ t₁ s t₂ i (block b (i + 1) x₁) enough sum ∙ collected-sums p 1 i (kept p m b j x₀) (h .sum) part-kept;
           same = work-size p b w u₁ w₂ u₂ t₁ s t₂ ∙ h .same;
         }
 

@@ -127,15 +127,15 @@ pub record TimesPre (m l : ℕ) (out scratch h g : List ℕ) : Type 0 where
   pub factors : FactorsPre m l out h g
   pub enough : l * factorial (suc m) ≤ length scratch
 
--- l is the rank of a block of g; s and p are the numbers of words of an element and of such a block
-pub record LayerPre (m l k s p : ℕ) (out scratch h g : List ℕ) : Type 0 where
+-- l is the rank of a block of g; s and n are the numbers of words of an element and of such a block
+pub record LayerPre (m l k s n : ℕ) (out scratch h g : List ℕ) : Type 0 where
   pub rank : m ≤ 6
   pub within : suc l ≤ m
   pub place : k ≤ suc l
   pub element-size : s ≡ factorial (suc m)
-  pub part-size : p ≡ factorial (suc l)
+  pub part-size : n ≡ factorial (suc l)
   pub left : length h ≡ s
-  pub right : k * p + p ≤ length g
+  pub right : k * n + n ≤ length g
   pub result : length out ≡ s
   pub enough : s + l * s ≤ length scratch
 

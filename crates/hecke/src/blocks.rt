@@ -31,6 +31,14 @@ pub(crate) fn add_to(d: &mut [u64], s: &[u64], p: Parameters)
     }
 }
 
+// c s in the place of d.
+pub(crate) fn multiple(d: &mut [u64], c: u64, s: &[u64], p: Parameters)
+    requires { ⌜ length (now d) ≡ length (now s) ⌝ }
+    ensures { λ _. ⌜ now (d .exit) ≡ scale ℕ (ring p) c (now (s .entry)) ⌝ }
+{
+    word_lists::scale_into(d, c, s);
+}
+
 // c s + d in the place of d, from the end.
 pub(crate) fn add_multiple(d: &mut [u64], c: u64, s: &[u64], p: Parameters)
     requires { ⌜ length (now d) ≡ length (now s) ⌝ }

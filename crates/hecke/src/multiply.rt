@@ -22,7 +22,7 @@ pub(crate) fn times(
     ensures { λ _. ⌜ now (result .exit) ≡ multiplied p m l (now (h .entry)) (now (g .entry)) ⌝ }
 {
     if l == 0 {
-        word_lists::scale_into(result, g[0], h);
+        blocks::multiple(result, g[0], h, p);
         return;
     }
     if l == 1 {
@@ -45,7 +45,7 @@ fn times_one(result: &mut [u64], h: &[u64], g: &[u64], m: usize, p: Parameters)
     requires { ⌜ FactorsPre m 1 (now result) (now h) (now g) ⌝ }
     ensures { λ _. ⌜ now (result .exit) ≡ multiplied p m 1 (now (h .entry)) (now (g .entry)) ⌝ }
 {
-    word_lists::scale_into(result, g[1], h);
+    blocks::multiple(result, g[1], h, p);
     letters::letter(result, m, 1, p);
     blocks::add_multiple(result, g[0], h, p);
 }

@@ -4,7 +4,6 @@ mod Measures
 mod LayerNeeds
 mod TimesNeeds
 use native.Mathlib.Omega.{arith}
-use borrow.Author.Needs.{needs}
 use Rattle.hecke.proofs.multiply.+layer+times.Proof.Measures.{μ-layer, μ-times, layer-at, times-at, layer-claims, times-claims, Inv, μ}
 use Rattle.hecke.proofs.multiply.+layer+times.Proof.LayerNeeds as layer
 use Rattle.hecke.proofs.multiply.+layer+times.Proof.TimesNeeds as times
@@ -40,9 +39,9 @@ pub +layer+times-spec : {M : Type 1} → statement M
     (λ c. omega arith)
     (layer.returns t))
     (λ t. times-lts.spec (times-claims t) (times-at t) times-reads.Post Inv μ
-    (times.shared-slice-read-scale-into t)
-    (λ c κs. search needs)
-    (λ c. c .before .before .scale-into .kept .0)
+    (times.shared-slice-read-multiple t)
+    (times.multiple-requires t)
+    (λ c. c .before .before .multiple .kept .0)
     (times.returns t)
     (times.times-one-requires t)
     (λ c. c .before .before .times-one .kept .0)

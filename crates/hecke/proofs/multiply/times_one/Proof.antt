@@ -11,7 +11,7 @@ use Rattle.hecke.proofs.multiply.times_one.Tie as tie
 abbrev start : tie.After-shared-slice-known3 → tie.Start
 start c = c .before .before .before .before .before
 
-abbrev first : tie.After-letter-arg → tie.After-scale-into
+abbrev first : tie.After-letter-arg → tie.After-multiple
 first c = c .before .before .before
 
 abbrev second : tie.After-shared-slice-known4 → tie.After-letter
@@ -19,11 +19,14 @@ second c = c .before .before .before .before
 
 -- ---- the needs
 
-shared-slice-read-scale-into : tie.Need-shared-slice-read-scale-into
-shared-slice-read-scale-into c = omega (arith, start c .pre .right, size-two)
+shared-slice-read-multiple : tie.Need-shared-slice-read-multiple
+shared-slice-read-multiple c = omega (arith, start c .pre .right, size-two)
+
+multiple-requires : tie.Need-multiple-requires
+multiple-requires c κs = let s = start c in s .pre .result ∙ sym (s .pre .left)
 
 letter-requires : tie.Need-letter-requires
-letter-requires c κs = let y = first c in letter-pre (start (y .before) .pre) (y .scale-into .kept .0)
+letter-requires c κs = let y = first c in letter-pre (start (y .before) .pre) (y .multiple .kept .0)
 
 shared-slice-read-add-multiple : tie.Need-shared-slice-read-add-multiple
 shared-slice-read-add-multiple c = omega (arith, start (first (second c .before) .before) .pre .right, size-two)
@@ -31,15 +34,15 @@ shared-slice-read-add-multiple c = omega (arith, start (first (second c .before)
 add-multiple-requires : tie.Need-add-multiple-requires
 add-multiple-requires c κs =
     let z = second c in let y = first (z .before) in let s = start (y .before) in
-    z .letter .kept .0 ∙ y .scale-into .kept .0 ∙ s .pre .result ∙ sym (s .pre .left)
+    z .letter .kept .0 ∙ y .multiple .kept .0 ∙ s .pre .result ∙ sym (s .pre .left)
 
 returns : tie.Need-returns
 returns c =
     let sum = c .before .before in let z = second (sum .before) in let y = first (z .before) in let s = start (y .before) in
-    one-whole (s .pre) (s .args .p) (y .scale-into .kept .0) (y .scale-into .ensures) (z .letter .ensures) (sum .add-multiple .ensures)
+    one-whole (s .pre) (s .args .p) (y .multiple .kept .0) (y .multiple .ensures) (z .letter .ensures) (sum .add-multiple .ensures)
 
 pub times-one-spec : {M : Type 1} → statement M
 times-one-spec =
     tie.close
-    (tie.spec shared-slice-read-scale-into (λ c κs. search needs) letter-requires shared-slice-read-add-multiple add-multiple-requires (λ c. search needs)
+    (tie.spec shared-slice-read-multiple multiple-requires letter-requires shared-slice-read-add-multiple add-multiple-requires (λ c. search needs)
     returns)

@@ -7,7 +7,7 @@
 use Prim.Native.Nat.{ℕ, _+_, _-_, _≤_, _<_}
 use borrow.Fn.Kinds.{In}
 use borrow.Fn.PlainCycle.{Measures, is, falls, and}
-use Rattle.word_lists.proofs.scale_into.Reads as scale-into
+use Rattle.hecke.proofs.blocks.multiple.Reads as multiple
 use Rattle.hecke.proofs.Summands.{summand, Summing}
 use Rattle.hecke.proofs.size.Reads as size
 use Rattle.hecke.proofs.action.act.Reads as act
@@ -44,8 +44,8 @@ layer-claims t = (times-below t, times.Post, act.Asked, act.Learnt)
 
 abbrev pub times-claims : ℕ → times-lts.Claims
 times-claims t = (
-  scale-into.Asked,
-  scale-into.Learnt,
+  multiple.Asked,
+  multiple.Learnt,
   times-one.Asked,
   times-one.Learnt,
   size.Asked,

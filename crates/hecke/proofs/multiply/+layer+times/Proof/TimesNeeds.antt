@@ -4,7 +4,7 @@ use mathlib.Core.Path.{_≡_, sym, _∙_}
 use Prim.Native.Nat.{ℕ, _≤_}
 use native.Mathlib.Omega.{arith}
 use Rattle.hecke.proofs.Summands.{summing-none, layer-pre, collect-pre, finish-pre, summing-more, times-whole}
-use Rattle.hecke.proofs.LowFactors.{size-one, zero-whole, one-pre, one-end}
+use Rattle.hecke.proofs.LowFactors.{size-one, multiplied-zero, one-pre, one-end}
 use Rattle.hecke.proofs.multiply.+layer+times.Proof.Measures.{times-at, times-claims, Inv, μ}
 use Rattle.hecke.proofs.multiply.times.Reads as times
 use Rattle.hecke.proofs.multiply.+layer+times.Lts-times as lts
@@ -35,15 +35,18 @@ module _ (t : ℕ) where
 
   -- ---- a right factor of rank 0 or 1
 
-  pub shared-slice-read-scale-into : lts.Need-shared-slice-read-scale-into (times-claims t) (times-at t) times.Post Inv μ
-  shared-slice-read-scale-into c =
+  pub shared-slice-read-multiple : lts.Need-shared-slice-read-multiple (times-claims t) (times-at t) times.Post Inv μ
+  shared-slice-read-multiple c =
       let then = c .before .before in let s = start (then .before) in
       omega (arith, s .pre .1 .factors .right, size-one (s .args .l) (then .if1 .taken))
+
+  pub multiple-requires : lts.Need-multiple-requires (times-claims t) (times-at t) times.Post Inv μ
+  multiple-requires c κs = let s = start (c .before .before .before) in s .pre .1 .factors .result ∙ sym (s .pre .1 .factors .left)
 
   pub returns : lts.Need-returns (times-claims t) (times-at t) times.Post Inv μ
   returns c =
       let scaled = c .before .before in let then = scaled .before .before .before in let s = start (then .before) in
-      zero-whole (s .args .p) (s .pre .1 .factors) (then .if1 .taken) (scaled .scale-into .ensures)
+      scaled .multiple .ensures ∙ multiplied-zero (s .args .p) (s .args .m) (s .args .l) (s .args .h .now) (s .args .g .now) (then .if1 .taken)
 
   pub times-one-requires : lts.Need-times-one-requires (times-claims t) (times-at t) times.Post Inv μ
   times-one-requires c κs = let then = c .before in one-pre (then .if2 .taken) (start (then .before .before) .pre .1)
