@@ -12,14 +12,14 @@ use lib.ListN.{length, take, drop}
 use Rattle.ring.specs.Ring.{Ops}
 use Rattle.lists.specs.Numbers.{factorial}
 use Rattle.lists.specs.Blocks.{block, blocks}
-use Rattle.lists.proofs.Blocks.{by-blocks, blocks-add, blocks-cong}
+use Rattle.lists.proofs.Blocks.{block-drop, by-blocks, blocks-add, blocks-cong}
 use Rattle.perms.specs.Permutation.{Letter}
 use Rattle.perms.specs.Extend.{extend}
 use Rattle.algebra.specs.Element.{coefficient}
 use Rattle.algebra.specs.Pairs.{OnPair, onPairs, zipped, exchanged}
 use Rattle.algebra.proofs.Generator.{P}
 use Rattle.algebra.proofs.Elements.{Has, has-own, has-eq, has-onPairs, has-zipped, equal-elements}
-use Rattle.algebra.proofs.PairLists.{block-drop, exchanged-blocks}
+use Rattle.algebra.proofs.PairLists.{exchanged-blocks}
 use Rattle.algebra.proofs.PairBlocks.{blockAt, extended, P-above, P-upper, P-lower, P-below}
 
 abbrev pub pairBlocks : (A : Type 0) (o : Ops A) → OnPair A → ℕ → ℕ → ℕ → ℕ → List A → List A

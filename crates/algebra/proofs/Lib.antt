@@ -47,7 +47,7 @@ pub mod Costs
 pub mod Counts
 pub mod Letters
 pub mod Bounds
--- a letter on pairs of coefficients
+-- an operator on pairs, by blocks
 pub mod ByBlocks
 pub mod LowRanks
 pub mod NestedLetter
