@@ -1,5 +1,5 @@
 -- An operator on pairs of coefficients, on an element of rank m, by the three parts that are lent: what the calls on them require, and the element when
--- all are back. For any operations o and any operator f. Rests on Cuts, lists' Parts and algebra's ByBlocks.
+-- all are back. For any operations o and any operator f. Rests on algebra's ByBlocks and lists' Parts and Cuts.
 use mathlib.Core.Path.{_≡_, sym, ap, _∙_}
 use mathlib.Core.List.{List, _++_}
 use Prim.Native.Nat.{ℕ, suc, _+_, _*_, _-_}
@@ -14,7 +14,7 @@ use Rattle.lists.proofs.Parts.{element-blocks}
 use Rattle.algebra.specs.Pairs.{OnPair, onPairs, exchanged}
 use Rattle.algebra.proofs.ByBlocks.{onPairs-blocks}
 use Rattle.hecke.specs.Steps.{LetterPre, EachLetterPre}
-use Rattle.hecke.proofs.Cuts.{Cut, low-size, middle-size, high-size, cut-blocks}
+use Rattle.lists.proofs.Cuts.{Cut, low-size, middle-size, high-size, cut-blocks}
 
 module _ {m j b : ℕ} {x : List ℕ} (p : LetterPre m j x) (s : b ≡ factorial (suc (m - 1))) where
   abbrev low : ℕ

@@ -1,5 +1,5 @@
--- The three parts of an element that `level` lends: what its calls require, and the action of T_a(j,l) when the parts are back. Rests on Cuts and
--- Pieces, and lists' Parts.
+-- The three parts of an element that `level` lends: what its calls require, and the action of T_a(j,l) when the parts are back. Rests on
+-- Pieces, and lists' Parts and Cuts.
 --
 --   Cutting m j l b high x w   what `level` has where it cuts x into blocks of b words, the third part from `high` on; w is the work slice
 use mathlib.Core.Path.{_≡_, sym, ap, _∙_}
@@ -15,7 +15,7 @@ use Rattle.lists.specs.Blocks.{block, blocks}
 use Rattle.lists.proofs.Parts.{element-blocks, next-block}
 use Rattle.element_calls.specs.declared.Parameters.{Parameters}
 use Rattle.hecke.specs.Steps.{acted, joint, LevelPre, EachPre, MiddlePre}
-use Rattle.hecke.proofs.Cuts.{Cut, low-size, middle-size, high-size, cut-blocks}
+use Rattle.lists.proofs.Cuts.{Cut, low-size, middle-size, high-size, cut-blocks}
 use Rattle.hecke.proofs.Pieces.{act-pieces}
 
 pub record Cutting (m j l b high : ℕ) (x w : List ℕ) : Type 0 where

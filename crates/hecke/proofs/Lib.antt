@@ -3,8 +3,6 @@ mod Sums
 mod Exchange
 mod Lowered
 mod Moved
-mod InRow
-mod Cuts
 -- one letter, and a word
 mod LowRanks
 mod LetterCut

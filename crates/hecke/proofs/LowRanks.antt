@@ -1,5 +1,5 @@
 -- An operator on pairs of coefficients, on elements of rank 1 and 2, by the exchanges that are made, and on blocks of rank 2. For any operations o and
--- any operator f. Rests on InRow and algebra's LowRanks.
+-- any operator f. Rests on algebra's LowRanks and lists' InRow.
 use mathlib.Core.Path.{_≡_, sym, ap, _∙_}
 use mathlib.Core.List.{List}
 use Prim.Native.Nat.{ℕ, suc, _*_, _-_}
@@ -13,7 +13,7 @@ use Rattle.perms.specs.Permutation.{Letter}
 use Rattle.algebra.specs.Pairs.{OnPair, onPairs, exchanged}
 use Rattle.algebra.proofs.LowRanks.{rank-one, rank-two-1, rank-two-2}
 use Rattle.hecke.specs.Steps.{LetterPre, EachLetterPre}
-use Rattle.hecke.proofs.InRow.{both-back}
+use Rattle.lists.proofs.InRow.{both-back}
 
 -- ---- sizes
 

@@ -1,5 +1,5 @@
 -- One level of the nested method as three parts of x: the blocks below m - j, the blocks from there to m - j + l, which depend on one another in the result,
--- and the blocks above. Rests on Sums and Cuts, algebra's Level, NestedLetter and PairLists, and lists' Blocks.
+-- and the blocks above. Rests on Sums, algebra's Level, NestedLetter and PairLists, and lists' Blocks and Cuts.
 --
 --   pieces p d b a j l x   the three parts, of blocks of rank d and b words, of which the second is from block a on
 use mathlib.Core.Path.{_≡_, sym, ap, ap₂, _∙_}
@@ -21,7 +21,7 @@ use Rattle.element_calls.specs.declared.Parameters.{Parameters}
 use Rattle.element_calls.specs.Coefficients.{ring}
 use Rattle.hecke.specs.Steps.{sums, acted, kept, joint}
 use Rattle.hecke.proofs.Sums.{sums-cong, sumRow-sums}
-use Rattle.hecke.proofs.Cuts.{block-take}
+use Rattle.lists.proofs.Cuts.{block-take}
 
 -- ---- the blocks of the second part depend on these blocks alone
 

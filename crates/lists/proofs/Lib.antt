@@ -9,9 +9,11 @@ pub mod Series
 -- parts of lists
 pub mod Blocks
 pub mod Parts
+pub mod LentAgain
+pub mod InRow
+pub mod Cuts
 pub mod Overwrite
 -- loops
 pub mod Fill
 pub mod Prefix
-pub mod LentAgain
 pub mod Passed

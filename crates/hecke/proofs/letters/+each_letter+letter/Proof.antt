@@ -1,13 +1,13 @@
--- The cycle of calls {letter, each_letter}. Rests on Each and Letter, which show what the two functions need.
-mod Each
-mod Letter
+-- The cycle of calls {letter, each_letter}. Rests on EachNeeds and LetterNeeds, which show what the two functions need.
+mod EachNeeds
+mod LetterNeeds
 use native.Mathlib.Omega.{arith}
 use Rattle.hecke.proofs.letters.each_letter.Reads as each-letter
 use Rattle.hecke.proofs.letters.+each_letter+letter.Lts-each_letter as each-lts
 use Rattle.hecke.proofs.letters.letter.Reads as letter
 use Rattle.hecke.proofs.letters.+each_letter+letter.Lts-letter as letter-lts
-use Rattle.hecke.proofs.letters.+each_letter+letter.Proof.Each as each-needs
-use Rattle.hecke.proofs.letters.+each_letter+letter.Proof.Letter as letter-needs
+use Rattle.hecke.proofs.letters.+each_letter+letter.Proof.EachNeeds as each-needs
+use Rattle.hecke.proofs.letters.+each_letter+letter.Proof.LetterNeeds as letter-needs
 use Rattle.hecke.proofs.letters.+each_letter+letter.{statement}
 use Rattle.hecke.proofs.letters.+each_letter+letter.Tie.{close}
 

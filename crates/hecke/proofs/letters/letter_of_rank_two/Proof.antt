@@ -1,8 +1,8 @@
--- For either letter one of the three parts of the element is empty, and the two exchanges are the others. Rests on InRow and LowRanks.
+-- For either letter one of the three parts of the element is empty, and the two exchanges are the others. Rests on LowRanks and lists' InRow.
 use mathlib.Core.Path.{_≡_, _∙_}
 use native.Mathlib.Omega.{arith}
 use borrow.Author.Needs.{needs}
-use Rattle.hecke.proofs.InRow.{same-size, second-size}
+use Rattle.lists.proofs.InRow.{same-size, second-size}
 use Rattle.hecke.proofs.LowRanks.{rank-two-size, exchanged-two-1, exchanged-two-2}
 use Rattle.hecke.proofs.letters.letter_of_rank_two.Statement.{statement}
 use Rattle.hecke.proofs.letters.letter_of_rank_two.Tie as tie

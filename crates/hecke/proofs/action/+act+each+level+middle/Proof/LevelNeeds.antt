@@ -1,4 +1,4 @@
--- What is to be shown of `level`: rank 2 by itself, else three parts. Rests on Measures, Cuts and Levels.
+-- What is to be shown of `level`: rank 2 by itself, else three parts. Rests on Measures, Levels and lists' Cuts.
 use mathlib.Core.Path.{_≡_, refl, sym, _∙_}
 use mathlib.Core.List.{List}
 use Prim.Native.Nat.{ℕ, suc, _+_, _*_, _-_, _≤_}
@@ -7,7 +7,7 @@ use lib.ListN.{length}
 use Rattle.lists.specs.Numbers.{factorial}
 use Rattle.element_calls.specs.declared.Parameters.{Parameters}
 use Rattle.hecke.specs.Steps.{acted, LevelPre, TwoPre}
-use Rattle.hecke.proofs.Cuts.{high-within, middle-end, high-end, cut-length}
+use Rattle.lists.proofs.Cuts.{high-within, middle-end, high-end, cut-length}
 use Rattle.hecke.proofs.Levels.{Cutting, cut, low-pre, middle-pre, high-pre, level-whole}
 use Rattle.hecke.proofs.action.+act+each+level+middle.Proof.Measures.{level-at, each-below, middle-below}
 use Rattle.hecke.proofs.action.each.Reads as each

@@ -7,7 +7,7 @@ use lib.ListN.{length}
 use borrow.Fn.Kinds.{In}
 use borrow.Fn.PlainCycle.{is, falls, and}
 use Rattle.hecke.specs.Steps.{lettered, LetterPre}
-use Rattle.hecke.proofs.Cuts.{high-within, middle-end, high-end, cut-length}
+use Rattle.lists.proofs.Cuts.{high-within, middle-end, high-end, cut-length}
 use Rattle.hecke.proofs.LowRanks.{rank-one-size, exchanged-one}
 use Rattle.hecke.proofs.LetterCut.{cut, low-pre, two-blocks, high-pre, all-back}
 use Rattle.hecke.proofs.letters.each_letter.Reads as each-letter
@@ -18,7 +18,7 @@ use Rattle.hecke.proofs.letters.+each_letter+letter.Lts-letter as lts
 use Rattle.hecke.proofs.letters.letter_of_rank_two.Reads as two-reads
 use Rattle.hecke.proofs.blocks.exchange.Reads as exchange-reads
 use Rattle.hecke.proofs.size.Reads as size-reads
-use Rattle.hecke.proofs.letters.+each_letter+letter.Proof.Each.{μ-each, μ-letter}
+use Rattle.hecke.proofs.letters.+each_letter+letter.Proof.EachNeeds.{μ-each, μ-letter}
 
 module _ (t : ℕ) where
   abbrev pub asked : In 1 letter-kinds.ps

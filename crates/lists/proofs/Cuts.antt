@@ -1,5 +1,5 @@
 -- A list of blocks of b words, cut into three parts that are lent one after another and come back: the sizes of the parts, and the list when all are
--- back. Rests on InRow and lists' Blocks and Parts.
+-- back. Rests on InRow, Blocks and Parts.
 --
 --   Cut a n c b high x   x is a + n + c blocks of b words; the second part is the n blocks up to the index `high`
 --   block-take           a block of the first words is a block of the list
@@ -11,10 +11,10 @@ use native.Mathlib.Omega.{arith}
 use lib.ListN.{length, take, drop}
 use lib.Seq.{take-add, take-take, drop-at, length-take-le}
 use borrow.Rule.Slice.PartMut.{midOf, putMid, mid-len, same-len-mid}
 use Rattle.lists.specs.Blocks.{block, blocks}
 use Rattle.lists.proofs.Blocks.{blocks-cong}
 use Rattle.lists.proofs.Parts.{below-block, rest-size}
-use Rattle.hecke.proofs.InRow.{first-back, second-back, third-back, rest-part}
+use Rattle.lists.proofs.InRow.{first-back, second-back, third-back, rest-part}
 
 pub block-take : (b k n : ℕ) (x : List ℕ) → k * b + b ≤ n → n ≤ length x → block b k (take n x) ≡ block b k x
 unfolding block

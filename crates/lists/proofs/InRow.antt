@@ -1,5 +1,5 @@
 -- Parts of a list that stand in a row, are lent one after another and come back: what stands after the parts that are back, and the list of two and of
--- three parts when all are back. Rests on lists' Parts.
+-- three parts when all are back. Rests on Parts.
 use mathlib.Core.Path.{_≡_, refl, sym, ap, _∙_}
 use mathlib.Core.List.{List, _++_, append-assoc}
 use Prim.Native.Nat.{ℕ, _+_, _-_, _≤_}
