@@ -19,12 +19,11 @@ use Rattle.algebra.specs.Laws.{Formula}
 use Rattle.algebra.proofs.Functions.{Eq}
 use Rattle.algebra.proofs.Enumeration.{perms-perm}
 use Rattle.algebra.proofs.Delta.{delta, delta-sum}
-use Rattle.algebra.proofs.Generator.{P-cong, R}
+use Rattle.algebra.proofs.Generator.{letter-onPairs, P-cong, R}
 use Rattle.algebra.proofs.Words.{Rw, Rw-comb}
 use Rattle.algebra.proofs.Reduced.{R-delta}
 use Rattle.algebra.proofs.Relations.{quadratic}
 use Rattle.algebra.proofs.Elements.{Has, has-own, has-basis, has-eq, has-scale, has-plus, has-onPairs, has-sumOver, equal-elements}
-use Rattle.algebra.proofs.OnPairs.{letter-onPairs}
 
 module _ (A : Type 0) (o : Ops A) (q r : A) (𝓡 : Ring A o) (m i : ℕ) (l : Letter m i) where
   has-letter : {h : List A} {F : List ℕ → A} → Has A o m h F → Has A o m (letter A o q r m i h) (R A o q r i F)

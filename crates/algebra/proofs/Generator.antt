@@ -1,5 +1,5 @@
--- An operator on pairs as an action on functions of permutations, and the two actions of a generator, which commute. Rests on Ascent and TwoSides of
--- `perms`.
+-- A letter is formula 4.1 on pairs. An operator on pairs as an action on functions of permutations, and the two actions of a generator, which commute.
+-- Rests on Ascent and TwoSides of `perms`.
 --
 --   pick f b x y    f at a permutation w: b tells whether its neighbour is longer, x is the coefficient there, and y that at w
 --   P f i F         f on the pairs of values F(w), F(w s_i)
@@ -16,8 +16,13 @@ use Rattle.perms.specs.Permutation.{Letter}
 use Rattle.perms.proofs.Perm.{rgt, lft, perm-rgt, rgt-rgt, lft-lft, lft-rgt}
 use Rattle.perms.proofs.Ascent.{ascR, ascL}
 use Rattle.perms.proofs.TwoSides.{Sides, agree, differ, sides}
-use Rattle.algebra.specs.Pairs.{OnPair, forward}
+use Rattle.algebra.specs.Product.{letter}
+use Rattle.algebra.specs.Pairs.{OnPair, forward, onPairs}
 use Rattle.algebra.proofs.Functions.{Eq}
+
+pub letter-onPairs : (A : Type 0) (o : Ops A) (q r : A) (m i : ℕ) (h : List A) → letter A o q r m i h ≡ onPairs A o (forward A o q r) m i h
+unfolding letter onPairs
+letter-onPairs A o q r m i h = refl
 
 module _ {A : Type 0} (f : OnPair A) where
   unfoldable pub pick : Bool → A → A → A

@@ -1,5 +1,5 @@
--- An operator on pairs does to the coefficients what its action does to functions of permutations; a letter is `forward` on pairs. Without any law of a
--- ring. Rests on Generator and Coefficients, and perms' Longer.
+-- An operator on pairs does to the coefficients what its action does to functions of permutations. Without any law of a ring. Rests on
+-- Generator and Coefficients, and perms' Longer.
 use mathlib.Core.Path.{_≡_, refl, _∙_}
 use mathlib.Core.Bool.{Bool, true, false, cond}
 use mathlib.Core.List.{List}
@@ -13,17 +13,13 @@ use Rattle.perms.proofs.Products.{product-generator}
 use Rattle.perms.proofs.Longer.{ascR-longer}
 use Rattle.perms.proofs.Ascent.{ascR}
 use Rattle.algebra.specs.Element.{coefficient}
-use Rattle.algebra.specs.Product.{letter}
-use Rattle.algebra.specs.Pairs.{OnPair, forward, onPairs}
+use Rattle.algebra.specs.Pairs.{OnPair, onPairs}
 use Rattle.algebra.proofs.Functions.{Eq}
 use Rattle.algebra.proofs.Generator.{pick, P}
+pub use Rattle.algebra.proofs.Generator.{letter-onPairs}
 use Rattle.algebra.proofs.Coefficients.{element-length, coefficient-element}
 
 module _ (A : Type 0) (o : Ops A) where
-  pub letter-onPairs : (q r : A) (m i : ℕ) (h : List A) → letter A o q r m i h ≡ onPairs A o (forward A o q r) m i h
-  unfolding letter onPairs
-  letter-onPairs q r m i h = refl
-
   pub onPairs-length : (f : OnPair A) (m i : ℕ) (h : List A) → length (onPairs A o f m i h) ≡ factorial (suc m)
   unfolding onPairs
   onPairs-length f m i h = element-length A o m _
