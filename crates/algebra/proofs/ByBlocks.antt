@@ -1,5 +1,5 @@
--- An operator on pairs, on the blocks of an element of rank m ≥ 1: three parts. Without any law of a ring. Rests on PairLists, OnPairs, PairBlocks,
--- Elements and Enumeration, and lists' Blocks.
+-- An operator on pairs, on the blocks of an element of rank m ≥ 1: three parts. Without any law of a ring. Rests on PairLists, PairBlocks and
+-- Elements, and lists' Blocks.
 --
 --   pairBlocks f d b a i x   the blocks of x, of rank d and b coefficients: f for s_i on each of the first a, f on the pairs of the two after these, and
 --                            f for s_(i-1) on each of the i - 1 at the end
@@ -12,27 +12,20 @@ use lib.ListN.{length, take, drop}
 use Rattle.ring.specs.Ring.{Ops}
 use Rattle.lists.specs.Numbers.{factorial}
 use Rattle.lists.specs.Blocks.{block, blocks}
-use Rattle.lists.proofs.Blocks.{by-blocks, blocks-add, blocks-cong}
+use Rattle.lists.proofs.Blocks.{block-drop, by-blocks, blocks-add, blocks-cong}
 use Rattle.perms.specs.Permutation.{Letter}
 use Rattle.perms.specs.Extend.{extend}
 use Rattle.algebra.specs.Element.{coefficient}
 use Rattle.algebra.specs.Pairs.{OnPair, onPairs, zipped, exchanged}
-use Rattle.algebra.proofs.Enumeration.{join-extend}
-use Rattle.algebra.proofs.Elements.{Has, has-own, has-eq, has-block, equal-elements}
-use Rattle.algebra.proofs.GeneratorBlocks.{blockAt}
-use Rattle.algebra.proofs.PairLists.{block-drop, exchanged-blocks}
-use Rattle.algebra.proofs.OnPairs.{P, has-onPairs, has-zipped}
-use Rattle.algebra.proofs.PairBlocks.{P-above, P-upper, P-lower, P-below}
+use Rattle.algebra.proofs.Generator.{P}
+use Rattle.algebra.proofs.Elements.{Has, has-own, has-eq, has-onPairs, has-zipped, equal-elements}
+use Rattle.algebra.proofs.PairLists.{exchanged-blocks}
+use Rattle.algebra.proofs.PairBlocks.{blockAt, extended, P-above, P-upper, P-lower, P-below}
 
 abbrev pub pairBlocks : (A : Type 0) (o : Ops A) → OnPair A → ℕ → ℕ → ℕ → ℕ → List A → List A
 pairBlocks A o f d b a i x =
     blocks a (λ k. onPairs A o f d i (block b k x))
     ++ (exchanged f b (take (b + b) (drop (a * b) x)) ++ blocks (i - 1) (λ k. onPairs A o f d (i - 1) (block b k (drop ((a + 2) * b) x))))
-
--- block k by the last image
-extended : {A : Type 0} {o : Ops A} {m : ℕ} {h : List A} {F : List ℕ → A} (k : ℕ) → Has A o (suc m) h F → k ≤ suc m
-    → Has A o m (block (factorial (suc m)) k h) (blockAt (m + 2 - k) F)
-extended {A} {o} {F = F} k a l = has-eq A o (has-block A o k a l) (λ u p. ap F (join-extend k u l p))
 
 -- at rank m + 1, with j + 1 in the place of i
 module _ (A : Type 0) (o : Ops A) (f : OnPair A) (m j : ℕ) (h : List A) (jm : j ≤ m) (e : length h ≡ factorial (suc (suc m))) where
@@ -53,21 +46,21 @@ module _ (A : Type 0) (o : Ops A) (f : OnPair A) (m j : ℕ) (h : List A) (jm : 
   X k = block B k (onPairs A o f (suc m) (suc j) h)
 
   whole : Has A o (suc m) (onPairs A o f (suc m) (suc j) h) (P f (suc j) F)
-  whole = has-onPairs A o f (has-own A o e) (record { low = omega arith; high = omega arith })
+  whole = has-onPairs A o (has-own A o e) f (record { low = omega arith; high = omega arith })
 
   has-b : (k : ℕ) → k ≤ suc m → Has A o m (b k) (blockAt (m + 2 - k) F)
   has-b k n = extended k (has-own A o e) n
 
   pub onPairs-before : (k : ℕ) → k < a → X k ≡ onPairs A o f m (suc j) (b k)
   onPairs-before k n =
-      equal-elements A o (extended k whole (omega arith)) (has-onPairs A o f (has-b k (omega arith)) (record { low = omega arith; high = omega arith }))
+      equal-elements A o (extended k whole (omega arith)) (has-onPairs A o (has-b k (omega arith)) f (record { low = omega arith; high = omega arith }))
       (λ u p. P-above f (suc j) (m + 2 - k) F u (omega arith))
 
   both : (g : A → A → A) → Has A o m (zipped g (b a) (b (a + 1))) (λ u. g (F (extend (suc (suc j)) u)) (F (extend (suc j) u)))
   both g =
       let x : m + 2 - a ≡ suc (suc j) = omega arith in
       let y : m + 2 - (a + 1) ≡ suc j = omega arith in
-      has-eq A o (has-zipped A o g (has-b a (omega arith)) (has-b (a + 1) (omega arith))) (λ u p. ap₂ (λ c d. g (F (extend c u)) (F (extend d u))) x y)
+      has-eq A o (has-zipped A o (has-b a (omega arith)) (has-b (a + 1) (omega arith)) g) (λ u p. ap₂ (λ c d. g (F (extend c u)) (F (extend d u))) x y)
 
   pub onPairs-upper : X a ≡ zipped (f .shorter) (b a) (b (a + 1))
   onPairs-upper = equal-elements A o (extended a whole (omega arith)) (both (f .shorter)) (λ u p.
@@ -81,7 +74,7 @@ module _ (A : Type 0) (o : Ops A) (f : OnPair A) (m j : ℕ) (h : List A) (jm : 
 
   pub onPairs-after : (k : ℕ) → a + 1 < k → k ≤ suc m → X k ≡ onPairs A o f m j (b k)
   onPairs-after k n l =
-      equal-elements A o (extended k whole l) (has-onPairs A o f (has-b k l) (record { low = omega arith; high = omega arith }))
+      equal-elements A o (extended k whole l) (has-onPairs A o (has-b k l) f (record { low = omega arith; high = omega arith }))
       (λ u p. P-below f j (m + 2 - k) F u (omega arith))
 
   in-row : onPairs A o f (suc m) (suc j) h ≡ pairBlocks A o f m B a (suc j) h

@@ -1,5 +1,5 @@
 -- Formula 3.1, Proposition 3.2 and the values of the nested method go over along a map of ring operations onto the coefficients that are meant.
--- Rests on NestedMaps, Onto and lists' Blocks.
+-- Rests on Generator, NestedMaps, Onto and lists' Blocks.
 use mathlib.Core.Path.{sym, ap, _∙_}
 use mathlib.Core.List.{List, map}
 use Prim.Native.Nat.{ℕ}
@@ -12,7 +12,7 @@ use Rattle.algebra.specs.Method.{Proposition3-2, Method}
 use Rattle.algebra.specs.Maps.{mapped, Maps}
 use Rattle.algebra.proofs.NestedMaps.{maps}
 use Rattle.algebra.proofs.Onto.{any, Onto, every, every2, elements}
-use Rattle.algebra.proofs.OnPairs.{letter-onPairs}
+use Rattle.algebra.proofs.Generator.{letter-onPairs}
 
 module _ {A B : Type 0} {o : Ops A} {p : Ops B} {f : A → B} (H : Hom A B o p f) (q r : A) {ok : B → Type 0} (s : Onto f any ok) (m : ℕ) where
   M : Maps A B o p f q r

@@ -91,22 +91,17 @@ module _ (A : Type 0) (o : Ops A) (m : ℕ) where
   unfolding basis
   basis-length v = length-map (range 0 (factorial (suc m))) (λ p. cond (same p (place v)) (o .one) (o .zero)) ∙ length-range 0 (factorial (suc m))
 
+  pub basis-at : (v : List ℕ) (i : ℕ) → i < factorial (suc m) → getD (basis A o m v) i (o .zero) ≡ cond (same i (place v)) (o .one) (o .zero)
+  unfolding basis
+  basis-at v i l =
+      let M = factorial (suc m) in
+      getD-map (λ p. cond (same p (place v)) (o .one) (o .zero)) (range 0 M) i 0 (o .zero) (omega (arith, length-range 0 M))
+      ∙ ap (λ p. cond (same p (place v)) (o .one) (o .zero)) (getD-range 0 M i l ∙ zero-add i)
+
   pub coefficient-basis : (v : List ℕ) → Perm m v → Eq m (coefficient A o (basis A o m v)) (delta A o v)
-  unfolding coefficient basis
-  coefficient-basis v c w p =
-      getD-map f (range 0 M) (place w) 0 (o .zero) (omega (arith, length-range 0 M, low))
-      ∙ ap f (getD-range 0 M (place w) low ∙ zero-add (place w))
-      ∙ go (same? (place w) (place v))
+  unfolding coefficient
+  coefficient-basis v c w p = basis-at v (place w) (place-below m w p) ∙ go (same? (place w) (place v))
     where
-      M : ℕ
-      M = factorial (suc m)
-
-      low : place w < M
-      low = place-below m w p
-
-      f : ℕ → A
-      f i = cond (same i (place v)) (o .one) (o .zero)
-
-      go : SameView (place w) (place v) → f (place w) ≡ delta A o v w
+      go : SameView (place w) (place v) → cond (same (place w) (place v)) (o .one) (o .zero) ≡ delta A o v w
       go (is e t) = rw (t, place-injective m v w c p (sym e)) (sym (delta-self A o w))
       go (isnt n t) = rw t (sym (delta-no A o v w (λ e. n (ap place (sym e)))))

@@ -1,4 +1,4 @@
--- The word of a(j, l) on the blocks of a coefficient function: Proposition 3.2, by the last image c. Rests on GeneratorBlocks, on Words, and on perms
+-- The word of a(j, l) on the blocks of a coefficient function: Proposition 3.2, by the last image c. Rests on PairBlocks, on Words, and on perms
 -- for the letters of a(j, l).
 use mathlib.Core.Path.{_≡_, refl, sym, ap, ap₂, _∙_, fun-ext}
 use mathlib.Core.List.{List, [], _∷_, _++_, map}
@@ -13,24 +13,28 @@ use Rattle.perms.specs.Permutation.{Perm}
 use Rattle.perms.specs.Tower.{cycle}
 use Rattle.perms.specs.Extend.{extend}
 use Rattle.perms.proofs.Word.{word-cycle, cycle-under, cycle-over, cycle-suc, cycle-add}
+use Rattle.algebra.specs.Pairs.{OnPair, forward}
 use Rattle.algebra.proofs.Functions.{Eq}
 use Rattle.algebra.proofs.Ranges.{sum-snoc}
 use Rattle.algebra.proofs.Generator.{R}
 use Rattle.algebra.proofs.Words.{Rw, Rw-cong, Rw-append, Rw-comb}
-use Rattle.algebra.proofs.GeneratorBlocks.{blockAt, R-above, R-upper, R-lower, R-below}
+use Rattle.algebra.proofs.PairBlocks.{blockAt, P-above, P-upper, P-lower, P-below}
 
 module _ (A : Type 0) (o : Ops A) (q r : A) where
+  abbrev f : OnPair A
+  f = forward A o q r
+
   -- ---- c above or below all letters
 
   Rw-above : (c : ℕ) (x : List ℕ) (F : List ℕ → A) → All (λ i. suc i < c) x → blockAt c (Rw A o q r x F) ≡ Rw A o q r x (blockAt c F)
   unfolding Rw
   Rw-above c [] F a = refl
-  Rw-above c (i ∷ x) F a = Rw-above c x (R A o q r i F) (a .1) ∙ ap (Rw A o q r x) (fun-ext (λ u. R-above A o q r i c F u (a .0)))
+  Rw-above c (i ∷ x) F a = Rw-above c x (R A o q r i F) (a .1) ∙ ap (Rw A o q r x) (fun-ext (λ u. P-above f i c F u (a .0)))
 
   Rw-below : (c : ℕ) (x : List ℕ) (F : List ℕ → A) → All (λ i. c ≤ i) x → blockAt c (Rw A o q r (map suc x) F) ≡ Rw A o q r x (blockAt c F)
   unfolding Rw
   Rw-below c [] F a = refl
-  Rw-below c (i ∷ x) F a = Rw-below c x (R A o q r (suc i) F) (a .1) ∙ ap (Rw A o q r x) (fun-ext (λ u. R-below A o q r i c F u (a .0)))
+  Rw-below c (i ∷ x) F a = Rw-below c x (R A o q r (suc i) F) (a .1) ∙ ap (Rw A o q r x) (fun-ext (λ u. P-below f i c F u (a .0)))
 
   pub cycle-above : (c j l : ℕ) (F : List ℕ → A) → suc j < c → blockAt c (Rw A o q r (cycle j l) F) ≡ Rw A o q r (cycle j l) (blockAt c F)
   cycle-above c j l F h = Rw-above c (cycle j l) F (cycle-under c j l h)
@@ -54,7 +58,7 @@ module _ (A : Type 0) (o : Ops A) (q r : A) where
         ap (λ x. Rw A o q r x F (extend c u)) (ap (cycle (suc j)) last ∙ cycle-add (suc j) l 1)
         ∙ ap (λ G. G (extend c u)) (Rw-append A o q r (cycle (suc j) l) (cycle (suc j - l) 1) F)
         ∙ ap (λ i. R A o q r i (Rw A o q r (cycle (suc j) l) F) (extend c u)) here
-        ∙ R-lower A o q r c (Rw A o q r (cycle (suc j) l) F) u (omega (arith, p .once c h (omega arith)))
+        ∙ P-lower f c (Rw A o q r (cycle (suc j) l) F) u (omega (arith, p .once c h (omega arith)))
         ∙ ap₂ (λ a b. o .add a (o .mul r b)) (cycle-last m (suc c) j l F u p n (omega arith) (omega arith))
         (ap (λ G. G u) (cycle-below c j l F (omega arith) (omega arith)))
         ∙ 𝓡 .add-assoc x (o .mul r (parts j l F u)) (o .mul r y)
@@ -111,4 +115,4 @@ module _ (A : Type 0) (o : Ops A) (q r : A) where
         there = omega arith
 
         met : Eq m (blockAt (suc d) (R A o q r d X)) (λ v. o .mul q (Rw A o q r (cycle j t) (blockAt d F) v))
-        met v c = R-upper A o q r d X v (omega (arith, c .once d l (omega arith))) ∙ ap (λ G. o .mul q (G v)) (cycle-below d j t F (omega arith) (omega arith))
+        met v c = P-upper f d X v (omega (arith, c .once d l (omega arith))) ∙ ap (λ G. o .mul q (G v)) (cycle-below d j t F (omega arith) (omega arith))

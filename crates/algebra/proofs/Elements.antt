@@ -1,5 +1,5 @@
 -- Elements by their coefficient functions: what the definitions on lists make of elements with given coefficients. Two elements with the same
--- coefficients are equal. Rests on Coefficients, CoefficientActions and Order.
+-- coefficients are equal. Rests on Coefficients, OnPairs, CoefficientActions, PairLists and Order.
 --
 --   Has m h F    h is an element of rank m, and F(w) is its coefficient of T_w
 use mathlib.Core.Path.{_≡_, refl, sym, ap, ap₂, _∙_}
@@ -15,21 +15,26 @@ use Rattle.lists.specs.Numbers.{factorial}
 use Rattle.lists.specs.Blocks.{block}
 use Rattle.lists.proofs.All.{all-member}
 use Rattle.lists.proofs.Blocks.{block-length}
-use Rattle.perms.specs.Permutation.{Perm, Word}
+use Rattle.perms.specs.Permutation.{Perm, Letter, Word}
 use Rattle.perms.specs.ShortestWord.{shortestWord}
 use Rattle.perms.proofs.Word.{word-up}
 use Rattle.perms.proofs.ShortestWord.{shortestWord-shortest}
-use Rattle.algebra.specs.Place.{join, perms}
+use Rattle.algebra.specs.Place.{place, join, perms}
 use Rattle.algebra.specs.Element.{coefficient, plus, scale, sumOver, basis}
 use Rattle.algebra.specs.Product.{act, times}
+use Rattle.algebra.specs.Pairs.{OnPair, onPairs, zipped}
 use Rattle.algebra.proofs.Functions.{Eq}
 use Rattle.algebra.proofs.Lists.{plus-length, scale-length}
+use Rattle.algebra.proofs.PairLists.{zipped-length, getD-zipped}
 use Rattle.algebra.proofs.Enumeration.{perm-join, perms-perm}
+use Rattle.algebra.proofs.Place.{place-below}
 use Rattle.algebra.proofs.Order.{coefficient-block}
 use Rattle.algebra.proofs.Delta.{delta}
 use Rattle.algebra.proofs.Coefficients.{same-element, coefficient-plus, coefficient-scale, sumOver-length, coefficient-sumOver, basis-length, coefficient-basis}
+use Rattle.algebra.proofs.Generator.{P, P-cong}
 use Rattle.algebra.proofs.Words.{Rw, Rw-cong}
 use Rattle.algebra.proofs.Convolution.{prod, prod-cong}
+use Rattle.algebra.proofs.OnPairs.{onPairs-length, coefficient-onPairs}
 use Rattle.algebra.proofs.CoefficientActions.{act-length, coefficient-act}
 
 module _ (A : Type 0) (o : Ops A) where
@@ -68,6 +73,12 @@ module _ (A : Type 0) (o : Ops A) where
       values = λ w p. coefficient-scale A o m x h (a .size) w p ∙ ap (o .mul x) (a .values w p);
     }
 
+    pub has-onPairs : (f : OnPair A) {i : ℕ} → Letter m i → Has m (onPairs A o f m i h) (P f i F)
+    has-onPairs f {i} l = record {
+      size = onPairs-length A o f m i h;
+      values = λ w p. coefficient-onPairs A o f h l w p ∙ P-cong f l (a .values) w p;
+    }
+
     pub has-act : (q r : A) (x : List ℕ) → Word m x → Has m (act A o q r m x h) (Rw A o q r x F)
     has-act q r x c = record {
       size = act-length A o q r m x h (a .size);
@@ -80,6 +91,16 @@ module _ (A : Type 0) (o : Ops A) where
         size = plus-length A o h g (a .size ∙ sym (b .size)) ∙ a .size;
         values = λ w p. coefficient-plus A o m h g (a .size) (b .size) w p ∙ ap₂ (o .add) (a .values w p) (b .values w p);
       }
+
+      pub has-zipped : (f : A → A → A) → Has m (zipped f h g) (λ w. f (F w) (G w))
+      unfolding coefficient
+      has-zipped f =
+          let same = a .size ∙ sym (b .size) in
+          record {
+            size = zipped-length f h g same ∙ a .size;
+            values = λ w p.
+                getD-zipped f h g (place w) (o .zero) (omega (arith, place-below m w p, a .size)) same ∙ ap₂ f (a .values w p) (b .values w p);
+          }
 
       pub equal-elements : Eq m F G → h ≡ g
       equal-elements e = same-element A o m h g (a .size) (b .size) (λ w p. has-eq e .values w p ∙ sym (b .values w p))

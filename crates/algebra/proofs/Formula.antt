@@ -13,28 +13,28 @@ use Rattle.perms.proofs.Ascent.{ascR, flipR}
 use Rattle.perms.proofs.Longer.{ascR-longer}
 use Rattle.algebra.specs.Place.{perms}
 use Rattle.algebra.specs.Element.{coefficient, plus, scale, basis}
-use Rattle.algebra.specs.Product.{basisLetter, letter, act}
+use Rattle.algebra.specs.Product.{basisLetter, letter}
+use Rattle.algebra.specs.Pairs.{forward, onPairs}
 use Rattle.algebra.specs.Laws.{Formula}
 use Rattle.algebra.proofs.Functions.{Eq}
 use Rattle.algebra.proofs.Enumeration.{perms-perm}
 use Rattle.algebra.proofs.Delta.{delta, delta-sum}
-use Rattle.algebra.proofs.Generator.{R}
-use Rattle.algebra.proofs.Words.{Rw, R-cong, Rw-comb}
+use Rattle.algebra.proofs.Generator.{letter-onPairs, P-cong, R}
+use Rattle.algebra.proofs.Words.{Rw, Rw-comb}
 use Rattle.algebra.proofs.Reduced.{R-delta}
 use Rattle.algebra.proofs.Relations.{quadratic}
-use Rattle.algebra.proofs.Elements.{Has, has-own, has-basis, has-eq, has-scale, has-plus, has-act, has-sumOver, equal-elements}
-use Rattle.algebra.proofs.OnPairs.{letter-onPairs}
+use Rattle.algebra.proofs.Elements.{Has, has-own, has-basis, has-eq, has-scale, has-plus, has-onPairs, has-sumOver, equal-elements}
 
 module _ (A : Type 0) (o : Ops A) (q r : A) (𝓡 : Ring A o) (m i : ℕ) (l : Letter m i) where
   has-letter : {h : List A} {F : List ℕ → A} → Has A o m h F → Has A o m (letter A o q r m i h) (R A o q r i F)
-  unfolding act Rw
-  has-letter a = has-act A o a q r (i ∷ []) (l, tt)
+  unfolding letter onPairs
+  has-letter a = has-onPairs A o a (forward A o q r) l
 
   -- w s_i is shorter than w
   R-shorter : (w : List ℕ) → Perm m w → ascR i w ≡ false
       → Eq m (R A o q r i (delta A o w)) (λ u. o .add (o .mul r (delta A o w u)) (o .mul q (delta A o (rgt i w) u)))
   R-shorter w c e u p =
-      R-cong A o q r l (λ v d. sym (back v d)) u p
+      P-cong (forward A o q r) l (λ v d. sym (back v d)) u p
       ∙ quadratic A o q r m 𝓡 (delta A o (rgt i w)) l u p
       ∙ ap (λ x. o .add (o .mul r x) (o .mul q (delta A o (rgt i w) u))) (back u p)
     where
@@ -55,7 +55,7 @@ module _ (A : Type 0) (o : Ops A) (q r : A) (𝓡 : Ring A o) (m i : ℕ) (l : L
 
   R-sum : (F : List ℕ → A) → Eq m (R A o q r i F) (comb A o (perms m) F (λ w. R A o q r i (delta A o w)))
   unfolding comb Rw
-  R-sum F u p = R-cong A o q r l (λ v c. sym (delta-sum A o 𝓡 m F v c)) u p ∙ ap (λ G. G u) (Rw-comb A o q r 𝓡 (i ∷ []) (perms m) F (delta A o))
+  R-sum F u p = P-cong (forward A o q r) l (λ v c. sym (delta-sum A o 𝓡 m F v c)) u p ∙ ap (λ G. G u) (Rw-comb A o q r 𝓡 (i ∷ []) (perms m) F (delta A o))
 
 pub formula : (A : Type 0) (o : Ops A) (q r : A) (𝓡 : Ring A o) (ok : A → Type 0) (m : ℕ) → Formula A o q r ok m
 unfolding comb

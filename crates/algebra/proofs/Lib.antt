@@ -3,6 +3,7 @@ pub mod Vectors
 pub mod Agreement
 -- lists and sums
 pub mod Lists
+pub mod PairLists
 pub mod Functions
 pub mod Ranges
 -- the order of the coefficients
@@ -21,6 +22,7 @@ pub mod Linear
 pub mod Relations
 -- the algebra on coefficient lists
 pub mod Coefficients
+pub mod OnPairs
 pub mod CoefficientActions
 pub mod Elements
 pub mod AnyWords
@@ -30,7 +32,7 @@ pub mod Laws
 pub mod Hecke
 pub mod Formula
 -- the nested method
-pub mod GeneratorBlocks
+pub mod PairBlocks
 pub mod CycleBlocks
 pub mod Proposition
 pub mod Recursion
@@ -45,10 +47,7 @@ pub mod Costs
 pub mod Counts
 pub mod Letters
 pub mod Bounds
--- a letter on pairs of coefficients
-pub mod PairLists
-pub mod OnPairs
-pub mod PairBlocks
+-- an operator on pairs, by blocks
 pub mod ByBlocks
 pub mod LowRanks
 pub mod NestedLetter

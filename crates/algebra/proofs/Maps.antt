@@ -14,7 +14,9 @@ use Rattle.perms.specs.ShortestWord.{shortestWord}
 use Rattle.algebra.specs.Place.{place, perms}
 use Rattle.algebra.specs.Element.{coefficient, element, plus, scale, sumOver, basis, unit, T}
 use Rattle.algebra.specs.Product.{minusOne, basisLetter, letter, act, times}
+use Rattle.algebra.specs.Pairs.{OnPair, forward, onPairs}
 use Rattle.algebra.specs.Pairing.{power, pairing}
+use Rattle.algebra.specs.Maps.{Along}
 
 pub map-cond : {X Y : Type 0} (k : X → Y) (b : Bool) {x y : X} {x' y' : Y} → k x ≡ x' → k y ≡ y' → k (cond b x y) ≡ cond b x' y'
 map-cond k true e d = e
@@ -66,6 +68,15 @@ module _ {A B : Type 0} {o : Ops A} {p : Ops B} {f : A → B} (H : Hom A B o p f
   unfolding minusOne
   map-minusOne q = H .add q (o .neg (o .one)) ∙ ap (p .add (f q)) (H .neg (o .one) ∙ ap (p .neg) (H .one))
 
+  pub map-onPairs : {F : OnPair A} {G : OnPair B} → Along f F G → (m i : ℕ) (h : List A) → map f (onPairs A o F m i h) ≡ onPairs B p G m i (map f h)
+  unfolding onPairs
+  map-onPairs c m i h = map-element m _ ∙ ap (element B p m) (fun-ext (λ w.
+      let v = product w (generator m i) in
+      map-cond f (less (len w) (len v)) (simp (c .shorter, map-coefficient)) (simp (c .longer, map-coefficient))))
+
+  pub forward-along : (q r : A) → Along f (forward A o q r) (forward B p (f q) (f r))
+  forward-along q r = record { shorter = λ s t. H .mul q t; longer = λ s t. simp (H .add, H .mul) }
+
   module _ (q r : A) where
     pub map-basisLetter : (m i : ℕ) (w : List ℕ) → map f (basisLetter A o q r m i w) ≡ basisLetter B p (f q) (f r) m i w
     unfolding basisLetter
@@ -74,10 +85,8 @@ module _ {A B : Type 0} {o : Ops A} {p : Ops B} {f : A → B} (H : Hom A B o p f
         map-cond (map f) (less (len w) (len v)) (map-basis m v) (simp (map-plus, map-scale, map-basis))
 
     pub map-letter : (m i : ℕ) (h : List A) → map f (letter A o q r m i h) ≡ letter B p (f q) (f r) m i (map f h)
-    unfolding letter
-    map-letter m i h = map-element m _ ∙ ap (element B p m) (fun-ext (λ w.
-        let v = product w (generator m i) in
-        map-cond f (less (len w) (len v)) (simp (H .mul, map-coefficient)) (simp (H .add, H .mul, map-coefficient))))
+    unfolding letter onPairs
+    map-letter = map-onPairs (forward-along q r)
 
     pub map-act : (m : ℕ) (x : List ℕ) (h : List A) → map f (act A o q r m x h) ≡ act B p (f q) (f r) m x (map f h)
     unfolding act

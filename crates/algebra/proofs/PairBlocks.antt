@@ -1,15 +1,26 @@
--- An operator on pairs, on the blocks of a coefficient function of rank m + 1, as in GeneratorBlocks. Rests on OnPairs, and on perms for generators
--- and ascents of `extend c u`.
-use mathlib.Core.Path.{_≡_}
+-- The blocks of a coefficient function of rank m + 1, and an operator on pairs on them. The block of the last image c is `blockAt c F`; document 01's
+-- block k is that of c = m + 2 - k. Rests on Generator, Elements and Enumeration, and on perms for generators and ascents of `extend c u`.
+use mathlib.Core.Path.{_≡_, ap}
 use mathlib.Core.List.{List}
-use Prim.Native.Nat.{ℕ, suc, _≤_, _<_}
+use Prim.Native.Nat.{ℕ, suc, _+_, _-_, _≤_, _<_}
+use Rattle.ring.specs.Ring.{Ops}
 use Rattle.lists.specs.Lists.{count}
+use Rattle.lists.specs.Numbers.{factorial}
+use Rattle.lists.specs.Blocks.{block}
 use Rattle.perms.specs.Extend.{extend}
 use Rattle.perms.proofs.Extend.{rgt-above, rgt-upper, rgt-lower, rgt-below}
 use Rattle.perms.proofs.ExtendAscent.{asc-above, asc-upper, asc-lower, asc-below}
 use Rattle.algebra.specs.Pairs.{OnPair}
-use Rattle.algebra.proofs.GeneratorBlocks.{blockAt}
-use Rattle.algebra.proofs.OnPairs.{pick, P}
+use Rattle.algebra.proofs.Enumeration.{join-extend}
+use Rattle.algebra.proofs.Generator.{pick, P}
+use Rattle.algebra.proofs.Elements.{Has, has-eq, has-block}
+
+abbrev pub blockAt : {A : Type 0} → ℕ → (List ℕ → A) → List ℕ → A
+blockAt c F u = F (extend c u)
+
+pub extended : {A : Type 0} {o : Ops A} {m : ℕ} {h : List A} {F : List ℕ → A} (k : ℕ) → Has A o (suc m) h F → k ≤ suc m
+    → Has A o m (block (factorial (suc m)) k h) (blockAt (m + 2 - k) F)
+extended {A} {o} {F = F} k a l = has-eq A o (has-block A o k a l) (λ u p. ap F (join-extend k u l p))
 
 module _ {A : Type 0} (f : OnPair A) where
   -- c is above i and i + 1

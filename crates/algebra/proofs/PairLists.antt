@@ -9,6 +9,7 @@ use lib.ListN.{length, getD, take, drop, length-drop, length-append}
 use lib.Seq.{take-add, take-at, drop-at, drop-drop, length-take-le}
 use Rattle.ring.specs.Ring.{Ops}
 use Rattle.lists.specs.Blocks.{block}
+pub use Rattle.lists.proofs.Blocks.{block-drop}
 use Rattle.algebra.specs.Element.{plus, scale}
 use Rattle.algebra.specs.Pairs.{OnPair, forward, zipped, exchanged}
 
@@ -39,10 +40,6 @@ module _ {A : Type 0} where
       let h = halves b x e in
       length-append (zipped (f .shorter) (take b x) (drop b x)) _
       ∙ omega (arith, zipped-length (f .shorter) (take b x) (drop b x) h, zipped-length (f .longer) (take b x) (drop b x) h, length-take-le b x (omega arith))
-
-  pub block-drop : (b a k : ℕ) (x : List A) → block b k (drop (a * b) x) ≡ block b (a + k) x
-  unfolding block
-  block-drop b a k x = ap (take b) (drop-drop (k * b) (a * b) x ∙ ap (λ (n : ℕ). drop n x) (sym (add-mul a k b)))
 
   -- the blocks a and a + 1
   pub exchanged-blocks : (f : OnPair A) (b a : ℕ) (x : List A) → (a + 2) * b ≤ length x

@@ -1,4 +1,4 @@
--- Proposition 3.2 on coefficient lists: the blocks of h T_a(j,l). Rests on CycleBlocks, Elements and Enumeration.
+-- Proposition 3.2 on coefficient lists: the blocks of h T_a(j,l). Rests on CycleBlocks, PairBlocks and Elements.
 use mathlib.Core.Path.{_≡_, ap, ap₂, _∙_}
 use mathlib.Core.List.{List}
 use Prim.Native.Nat.{ℕ, zero, suc, _+_, _-_, _≤_, _<_}
@@ -15,16 +15,10 @@ use Rattle.perms.proofs.Word.{word-cycle}
 use Rattle.algebra.specs.Element.{coefficient, plus, scale, sumOver}
 use Rattle.algebra.specs.Product.{act}
 use Rattle.algebra.specs.Method.{Proposition3-2}
-use Rattle.algebra.proofs.Enumeration.{join-extend}
 use Rattle.algebra.proofs.Words.{Rw}
-use Rattle.algebra.proofs.Elements.{Has, has-own, has-eq, has-scale, has-plus, has-act, has-block, has-sumOver, equal-elements}
-use Rattle.algebra.proofs.GeneratorBlocks.{blockAt}
+use Rattle.algebra.proofs.Elements.{Has, has-own, has-eq, has-scale, has-plus, has-act, has-sumOver, equal-elements}
+use Rattle.algebra.proofs.PairBlocks.{blockAt, extended}
 use Rattle.algebra.proofs.CycleBlocks.{cycle-above, cycle-below, parts, cycle-last, cycle-among}
-
--- block k by the last image
-extended : {A : Type 0} {o : Ops A} {m : ℕ} {h : List A} {F : List ℕ → A} (k : ℕ) → Has A o (suc m) h F → k ≤ suc m
-    → Has A o m (block (factorial (suc m)) k h) (blockAt (m + 2 - k) F)
-extended {A} {o} {F = F} k a l = has-eq A o (has-block A o k a l) (λ u p. ap F (join-extend k u l p))
 
 -- at rank m + 1, with j + 1 in the place of j
 module _ (A : Type 0) (o : Ops A) (q r : A) (𝓡 : Ring A o) (m j l : ℕ) (h : List A) (F : List ℕ → A)

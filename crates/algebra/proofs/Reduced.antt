@@ -15,14 +15,14 @@ use Rattle.perms.proofs.Ascending.{Ascends, AscendsL, ascends-word}
 use Rattle.perms.proofs.Reduced.{short-makes, short-makesL, short-ascends, short-ascendsL}
 use Rattle.algebra.proofs.Functions.{Eq}
 use Rattle.algebra.proofs.Delta.{delta, delta-no, delta-iff}
-use Rattle.algebra.proofs.Generator.{step, R, L}
+use Rattle.algebra.proofs.Generator.{pick, P, step, R, L}
 use Rattle.algebra.proofs.Words.{Rw, Lw, Rw-cong, L-cong}
 
 module _ (A : Type 0) (o : Ops A) (q r : A) (𝓡 : Ring A o) where
   -- for either action s of a letter, with its test up
   delta-step : (s : List ℕ → List ℕ) (up : List ℕ → Bool) (u w : List ℕ) → ((v : List ℕ) → s (s v) ≡ v) → up (s u) ≡ not (up u) → up w ≡ true
       → step A o q r (up u) (delta A o w (s u)) (delta A o w u) ≡ delta A o (s w) u
-  unfolding step
+  unfolding pick
   delta-step s up u w back flip rise = rw moved (go (up u) refl)
     where
       moved : delta A o w (s u) ≡ delta A o (s w) u
@@ -36,7 +36,7 @@ module _ (A : Type 0) (o : Ops A) (q r : A) (𝓡 : Ring A o) where
           X = delta A o (s w) u
 
   pub R-delta : {m i : ℕ} (w : List ℕ) → Letter m i → ascR i w ≡ true → Eq m (R A o q r i (delta A o w)) (delta A o (rgt i w))
-  unfolding R
+  unfolding P
   R-delta {i = i} w l rise u p = delta-step (rgt i) (ascR i) u w (rgt-rgt i) (flipR i u l p) rise
 
   L-delta : {m i : ℕ} (w : List ℕ) → Letter m i → ascL i w ≡ true → Eq m (L A o q r i (delta A o w)) (delta A o (lft i w))

@@ -12,13 +12,13 @@ use Rattle.perms.proofs.Ascent.{ascR, flipR}
 use Rattle.perms.proofs.Braid.{commuting-left, commuting-right, braid-left, braid-right}
 use Rattle.algebra.specs.Laws.{Distant}
 use Rattle.algebra.proofs.Functions.{Eq}
-use Rattle.algebra.proofs.Generator.{step, R}
+use Rattle.algebra.proofs.Generator.{pick, P, step, R}
 use Rattle.algebra.proofs.Words.{Rw}
 use Rattle.algebra.proofs.Convolution.{act-alike}
 
 module _ (A : Type 0) (o : Ops A) (q r : A) (m : ℕ) (𝓡 : Ring A o) (F : List ℕ → A) where
   pub quadratic : {i : ℕ} → Letter m i → Eq m (R A o q r i (R A o q r i F)) (λ w. o .add (o .mul r (R A o q r i F w)) (o .mul q (F w)))
-  unfolding R step
+  unfolding P pick
   quadratic {i} l w p = rw (rgt-rgt i w, flipR i w l p) (go (ascR i w))
     where
       x : A

@@ -13,10 +13,11 @@ use Rattle.ring.proofs.Ring.{mul-left-comm}
 use Rattle.ring.proofs.Sum.{sum-add, sum-mul}
 use Rattle.ring.proofs.Combination.{comb}
 use Rattle.perms.specs.Permutation.{Letter, Word}
-use Rattle.perms.proofs.Perm.{rgt, lft, perm-rgt, perm-lft}
+use Rattle.perms.proofs.Perm.{rgt, lft, perm-lft}
 use Rattle.perms.proofs.Ascent.{ascR, ascL}
+use Rattle.algebra.specs.Pairs.{forward}
 use Rattle.algebra.proofs.Functions.{Eq}
-use Rattle.algebra.proofs.Generator.{step, R, L, L-R}
+use Rattle.algebra.proofs.Generator.{pick, P, P-cong, step, R, L, L-R}
 
 module _ (A : Type 0) (o : Ops A) (q r : A) where
   unfoldable pub Rw : List ℕ → (List ℕ → A) → List ℕ → A
@@ -34,10 +35,6 @@ module _ (A : Type 0) (o : Ops A) (q r : A) where
 
   -- ---- by values at permutations
 
-  pub R-cong : {m i : ℕ} {F G : List ℕ → A} → Letter m i → Eq m F G → Eq m (R A o q r i F) (R A o q r i G)
-  unfolding R
-  R-cong {i = i} l h w p = ap₂ (step A o q r (ascR i w)) (h (rgt i w) (perm-rgt l p)) (h w p)
-
   pub L-cong : {m : ℕ} (i : ℕ) {F G : List ℕ → A} → Eq m F G → Eq m (L A o q r i F) (L A o q r i G)
   unfolding L
   L-cong i h w p = ap₂ (step A o q r (ascL i w)) (h (lft i w) (perm-lft i p)) (h w p)
@@ -45,7 +42,7 @@ module _ (A : Type 0) (o : Ops A) (q r : A) where
   pub Rw-cong : {m : ℕ} (x : List ℕ) {F G : List ℕ → A} → Word m x → Eq m F G → Eq m (Rw x F) (Rw x G)
   unfolding Rw
   Rw-cong [] a h = h
-  Rw-cong (i ∷ x) a h = Rw-cong x (a .1) (R-cong (a .0) h)
+  Rw-cong (i ∷ x) a h = Rw-cong x (a .1) (P-cong (forward A o q r) (a .0) h)
 
   pub Lw-cong : {m : ℕ} (x : List ℕ) {F G : List ℕ → A} → Eq m F G → Eq m (Lw x F) (Lw x G)
   unfolding Lw
@@ -71,12 +68,12 @@ module _ (A : Type 0) (o : Ops A) (q r : A) where
       step-comb : (b : Bool) (s : List B) (a X Y : B → A)
           → step A o q r b (sum A o s (λ v. o .mul (a v) (X v))) (sum A o s (λ v. o .mul (a v) (Y v)))
           ≡ sum A o s (λ v. o .mul (a v) (step A o q r b (X v) (Y v)))
-      unfolding step
+      unfolding pick
       step-comb true s a X Y = simp (← (sum-mul A o 𝓡 s q (λ v. o .mul (a v) (X v))), mul-left-comm A o 𝓡 q)
-      step-comb false s a X Y = simp (step, 𝓡 .mul-add, sum-add A o 𝓡, ← (sum-mul A o 𝓡 s r (λ v. o .mul (a v) (Y v))), mul-left-comm A o 𝓡 r)
+      step-comb false s a X Y = simp (pick, 𝓡 .mul-add, sum-add A o 𝓡, ← (sum-mul A o 𝓡 s r (λ v. o .mul (a v) (Y v))), mul-left-comm A o 𝓡 r)
 
       pub Rw-comb : (x : List ℕ) (s : List B) (a : B → A) (G : B → List ℕ → A) → Rw x (comb A o s a G) ≡ comb A o s a (λ v. Rw x (G v))
-      unfolding Rw R comb
+      unfolding Rw P comb
       Rw-comb [] s a G = refl
       Rw-comb (i ∷ x) s a G = ap (Rw x) (fun-ext (λ w. step-comb (ascR i w) s a (λ v. G v (rgt i w)) (λ v. G v w))) ∙ Rw-comb x s a (λ v. R A o q r i (G v))
 

@@ -1,11 +1,11 @@
--- Lists by blocks: the length of a block, rows of blocks, and every list as its blocks; maps go block by block. Rests on the definitions alone.
+-- Lists by blocks: the length of a block, the blocks of a rest, rows of blocks, and every list as its blocks; maps go block by block. Rests on the definitions alone.
 use mathlib.Core.Path.{_≡_, refl, sym, ap, ap₂, _∙_}
 use mathlib.Core.List.{List, [], _∷_, _++_, map, append-nil, append-assoc, map-append}
 use Prim.Native.Nat.{ℕ, zero, suc, _+_, _*_, _≤_, _<_}
-use native.Mathlib.Nat.{zero-mul, suc-mul, mul-le-mul-right}
+use native.Mathlib.Nat.{zero-mul, suc-mul, add-mul, mul-le-mul-right}
 use native.Mathlib.Omega.{arith}
 use lib.ListN.{length, take, drop, length-drop}
-use lib.Seq.{length-take-le, take-add, take-all}
+use lib.Seq.{drop-drop, length-take-le, take-add, take-all}
 use Rattle.lists.specs.Blocks.{block, blocks}
 
 module _ {A : Type 0} where
@@ -15,6 +15,10 @@ module _ {A : Type 0} where
 
   pub block-length : (B n k : ℕ) (h : List A) → k < n → length h ≡ n * B → length (block B k h) ≡ B
   block-length B n k h l e = block-size B k h (omega (arith, mul-le-mul-right B l))
+
+  pub block-drop : (B a k : ℕ) (h : List A) → block B k (drop (a * B) h) ≡ block B (a + k) h
+  unfolding block
+  block-drop B a k h = ap (take B) (drop-drop (k * B) (a * B) h ∙ ap (λ (n : ℕ). drop n h) (sym (add-mul a k B)))
 
   pub blocks-add : (a n : ℕ) (f : ℕ → List A) → blocks (a + n) f ≡ blocks a f ++ blocks n (λ i. f (a + i))
   unfolding blocks
