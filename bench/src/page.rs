@@ -22,7 +22,7 @@ const TERMS: &str = "
   plain Rust with the same checks, where larger images are counted in a mask of those seen, `bench/src/towers.rs`. For sheets,
   the runner of `rust/plain` by this method.
 - **C**: the same nested method in C tuned by hand, `bench/c/nested.c`, with the library's cases of their own (letters in place;
-  letters and T_a(2,2) at ranks 1 and 2; a right factor of rank 1) and with no checks. It is compiled by cc and by clang with -O3
+  letters at ranks 1 and 2, and T_a(2,2) at rank 2; a right factor of rank 1) and with no checks. It is compiled by cc and by clang with -O3
   for any x86-64 processor, as the archive is; both take part, and the faster is shown.
 - **(b)**: formula 4.4 on plain lists, `bench/src/lists.rs`: each T_v acts through its whole word, as source document 000
   counts. The places of w and ws, and the words, are in tables made before the clock starts; `rust/plain`, written to be read,
@@ -56,9 +56,10 @@ Read off the archive, which is for any x86-64 processor:
 - A slice passes through memory, as an address and a length, and so does what finds no register. Loops over two slices are made
   twice by the compiler, for slices that overlap and for those that do not, since it is not told that they do not. The size of a
   block is a jump at each level of `level` and `letter`.
-- C does without one thing that the library has to do: where a product's sum over three blocks or more begins, the library makes
-  the first summand in the result and copies it, and C makes it in the scratch. To save the copy, two parts of one slice would have
-  to be lent at the same time.
+- Where a product's sum over three blocks or more begins, the library makes the first summand in the result and copies it to the
+  scratch, and C makes it there. This is most of what the library takes longer at ranks 4 to 6: with the same copy in C, in a run
+  beside this one, the ratios at ranks 3 to 6 were 1.06, 1.01, 1.03 and 1.00. To save the copy, two parts of one slice would have to
+  be lent at the same time.
 ";
 
 fn time(times: Option<&Times>) -> String {

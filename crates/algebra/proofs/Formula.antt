@@ -1,4 +1,4 @@
--- Formula 3.1: what T_i makes of T_w, and of any element as a sum of these. Rests on Elements, Reduced and Relations.
+-- Formula 3.1: what T_i makes of T_w, and of any element as a sum of these; and formula 4.1 on pairs. Rests on Elements, Reduced, Relations and Generator.
 use mathlib.Core.Path.{_≡_, refl, sym, ap, _∙_}
 use mathlib.Core.Bool.{Bool, true, false, cond, not}
 use mathlib.Core.List.{List, [], _∷_}

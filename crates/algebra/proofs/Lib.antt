@@ -53,7 +53,6 @@ pub mod LowRanks
 pub mod NestedLetter
 -- maps of operations
 pub mod Maps
-pub mod PairMaps
 pub mod NestedMaps
 pub mod Onto
 pub mod Carry

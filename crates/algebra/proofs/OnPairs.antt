@@ -16,7 +16,6 @@ use Rattle.algebra.specs.Element.{coefficient}
 use Rattle.algebra.specs.Pairs.{OnPair, onPairs}
 use Rattle.algebra.proofs.Functions.{Eq}
 use Rattle.algebra.proofs.Generator.{pick, P}
-pub use Rattle.algebra.proofs.Generator.{letter-onPairs}
 use Rattle.algebra.proofs.Coefficients.{element-length, coefficient-element}
 
 module _ (A : Type 0) (o : Ops A) where

@@ -9,7 +9,6 @@ use lib.ListN.{length, getD, take, drop, length-drop, length-append}
 use lib.Seq.{take-add, take-at, drop-at, drop-drop, length-take-le}
 use Rattle.ring.specs.Ring.{Ops}
 use Rattle.lists.specs.Blocks.{block}
-pub use Rattle.lists.proofs.Blocks.{block-drop}
 use Rattle.algebra.specs.Element.{plus, scale}
 use Rattle.algebra.specs.Pairs.{OnPair, forward, zipped, exchanged}
 

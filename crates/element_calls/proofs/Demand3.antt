@@ -1,5 +1,5 @@
--- Demand 3 holds, with algebra's definitions as what the calls write. Rests on Verdicts, Calls, algebra's Modular and Bounds, lists' Tally
--- and perms' Reduced.
+-- Demand 3 holds, with algebra's definitions as what the calls write. Rests on Verdicts, Calls, Answers, algebra's Modular and Bounds,
+-- lists' Tally and perms' Reduced.
 use mathlib.Core.Path.{_≡_, refl, sym, ap, _∙_}
 use mathlib.Core.List.{List, [], _∷_}
 use Prim.Native.Nat.{ℕ, suc, _*_, _/_, _≤_}

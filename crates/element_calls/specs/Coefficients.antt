@@ -5,14 +5,14 @@
 --   ring p           the operations on coefficients
 --   Coefficient p x  x is a coefficient: a number below the modulus
 --   parametersOf q   q, and r = q - 1
-use Prim.Native.Nat.{ℕ, _^_, _<_}
+use Prim.Native.Nat.{ℕ, _<_}
 use Rattle.ring.specs.Ring.{Ops}
-use Rattle.ring.specs.Modular.{modular, words}
+use Rattle.ring.specs.Modular.{wordModulus, modular, words}
 use Rattle.algebra.specs.Product.{minusOne}
 use Rattle.element_calls.specs.declared.Parameters.{Parameters}
 
 unfoldable pub modulus : Parameters → ℕ
-modulus p = 2 ^ 64
+modulus p = wordModulus
 
 abbrev pub ring : Parameters → Ops ℕ
 ring p = modular (modulus p)

@@ -13,7 +13,7 @@ use Rattle.algebra.specs.Nested.{free, _⊠_, nested}
 use Rattle.algebra.proofs.NestedLetter.{nested-letter}
 use Rattle.element_calls.specs.declared.Parameters.{Parameters}
 use Rattle.element_calls.specs.Coefficients.{ring}
-use Rattle.hecke.specs.Steps.{sums, lettered, acted, multiplied, LetterPre, FactorsPre, TimesPre}
+use Rattle.hecke.specs.Steps.{exchanging, sums, lettered, acted, multiplied, LetterPre, FactorsPre, TimesPre}
 use Rattle.hecke.proofs.Pieces.{acted-none}
 use Rattle.hecke.proofs.Summands.{multiplied-suc}
 
@@ -56,7 +56,7 @@ module _ {m l : ℕ} {result scratch h g : List ℕ} (one : l ≡ 1) (c : TimesP
   one-end p e = e ∙ ap (λ (n : ℕ). multiplied p m n h g) (sym one)
 
 letter-acted : (p : Parameters) {m : ℕ} {y : List ℕ} → LetterPre m 1 y → lettered p m 1 y ≡ acted p m 1 1 y
-unfolding acted
+unfolding exchanging acted
 letter-acted p {m} {y} d = sym (nested-letter ℕ (ring p) (p .q) (p .r) m 1 y (d .letter) (d .size))
 
 module _ {m : ℕ} {result h g : List ℕ} (c : FactorsPre m 1 result h g) where

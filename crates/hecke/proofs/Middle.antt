@@ -2,7 +2,7 @@
 -- LentAgain, Parts, Passed and Blocks.
 --
 --   onBlock p m j l k y           block k, which was y, after its step; block 0 is not changed
---   Gathered p m j l b x₀ x w₀ w i
+--   PartsDone p m j l b x₀ x w₀ w i
 --                                 i steps are done: x₀ is now x, and w₀ is now w, whose first words are the sum of the first i parts
 use mathlib.Core.Path.{_≡_, refl, sym, ap, ap₂, _∙_, subst}
 use mathlib.Core.List.{List, _++_}
@@ -61,14 +61,14 @@ module _ (p : Parameters) (m j l : ℕ) where
       ap (λ n. onBlock n y) (add-one i)
       ∙ ap₂ (λ n k. acted p m (j - n) (l - n) (acted p m (j - 1) k y)) (sym (add-one i)) e
 
-  pub record Gathered (b : ℕ) (x₀ x w₀ w : List ℕ) (i : ℕ) : Type 0 where
+  pub record PartsDone (b : ℕ) (x₀ x w₀ w : List ℕ) (i : ℕ) : Type 0 where
     pub done : Passed b onBlock x₀ x (i + 1)
     pub sum : 1 ≤ i → take b w ≡ sums p 1 (i - 1) (kept p m b j x₀)
     pub same : length w ≡ length w₀
 
-  pub gathered-none : (b : ℕ) (x w : List ℕ) → Gathered b x x w w 0
+  pub parts-done-none : (b : ℕ) (x w : List ℕ) → PartsDone b x x w w 0
   unfolding onBlock block blocks
-  gathered-none b x w =
+  parts-done-none b x w =
       let e : (0 + 1) * b ≡ b = omega arith in
       record {
         done = record { front = ap (λ (n : ℕ). take n x) e ∙ ap (λ (n : ℕ). take b (drop n x)) (sym (zero-mul b)); rest = refl; same = refl };
@@ -76,7 +76,7 @@ module _ (p : Parameters) (m j l : ℕ) where
         same = refl;
       }
 
-module _ {p : Parameters} {m j l b : ℕ} {x₀ x w₀ w : List ℕ} {i : ℕ} (h : Gathered p m j l b x₀ x w₀ w i) (fits : (i + 1) * b + b ≤ length x) where
+module _ {p : Parameters} {m j l b : ℕ} {x₀ x w₀ w : List ℕ} {i : ℕ} (h : PartsDone p m j l b x₀ x w₀ w i) (fits : (i + 1) * b + b ≤ length x) where
   abbrev at : ℕ
   at = (i + 1) * b
 
@@ -110,10 +110,10 @@ module _ {p : Parameters} {m j l b : ℕ} {x₀ x w₀ w : List ℕ} {i : ℕ} (
         sym (part-block b (i + 1) x₁) ∙ back ∙ e₁ ∙ ap₂ (acted p m (j - 1)) e lent-block ∙ ap (kept p m b j x₀) d
 
     -- w₂ has the sum, and then the block is back as v₂ and the rest of w₂ as u₂
-    pub gathered-more : (w₂ v₂ u₂ : List ℕ) → b + b ≤ length w → length w₂ ≡ length w₁ → take b w₂ ≡ collected p i (take b w₁) (block b (i + 1) x₁)
+    pub parts-done-more : (w₂ v₂ u₂ : List ℕ) → b + b ≤ length w → length w₂ ≡ length w₁ → take b w₂ ≡ collected p i (take b w₁) (block b (i + 1) x₁)
         → v₂ ≡ acted p m (j - (i + 1)) (l - (i + 1)) (midOf at n x₁) → length v₂ ≡ length (midOf at n x₁) → length u₂ ≡ length (midOf b (length w₂ - b) w₂)
-        → Gathered p m j l b x₀ (putMid at n x₁ v₂) w₀ (putMid b (length w₂ - b) w₂ u₂) (i + 1)
-    gathered-more w₂ v₂ u₂ enough s sum e₂ s₂ t₂ =
+        → PartsDone p m j l b x₀ (putMid at n x₁ v₂) w₀ (putMid b (length w₂ - b) w₂ u₂) (i + 1)
+    parts-done-more w₂ v₂ u₂ enough s sum e₂ s₂ t₂ =
         let value : v₂ ≡ onBlock p m j l (i + 1) (midOf at n x) =
         e₂ ∙ ap (acted p m (j - (i + 1)) (l - (i + 1))) (back ∙ e₁) ∙ sym (onBlock-next p m j l i (midOf at n x)) in
         record {
@@ -125,10 +125,10 @@ module _ {p : Parameters} {m j l b : ℕ} {x₀ x w₀ w : List ℕ} {i : ℕ} (
 
 -- ---- all steps
 
-pub gathered-all : {p : Parameters} {m j l b : ℕ} {x₀ x w₀ w v : List ℕ} → 1 ≤ l → length x₀ ≡ suc l * b → Gathered p m j l b x₀ x w₀ w l
+pub parts-done-all : {p : Parameters} {m j l b : ℕ} {x₀ x w₀ w v : List ℕ} → 1 ≤ l → length x₀ ≡ suc l * b → PartsDone p m j l b x₀ x w₀ w l
     → v ≡ shifted p b x (take b w) → v ≡ joint p m b j l x₀
 unfolding joint kept onBlock blocks scale
-gathered-all {p} {m} {j} {l} {b} {x₀} {x} some size h e =
+parts-done-all {p} {m} {j} {l} {b} {x₀} {x} some size h e =
     let F : ℕ → List ℕ = λ i. onBlock p m j l i (block b i x₀) in
     let one : l + 1 ≡ 1 + l = omega arith in
     let first : length (block b 0 x₀) ≡ b = block-size b 0 x₀ (omega (arith, size)) in

@@ -1,5 +1,5 @@
 -- One level of the nested method as three parts of x: the blocks below m - j, the blocks from there to m - j + l, which depend on one another in the result,
--- and the blocks above. Rests on Sums, algebra's Level, NestedLetter and PairLists, and lists' Blocks and Cuts.
+-- and the blocks above. Rests on Sums, algebra's Level and NestedLetter, and lists' Blocks and Cuts.
 --
 --   pieces p d b a j l x   the three parts, of blocks of rank d and b words, of which the second is from block a on
 use mathlib.Core.Path.{_≡_, sym, ap, ap₂, _∙_}
@@ -10,12 +10,11 @@ use native.Mathlib.Omega.{arith}
 use lib.ListN.{length, take, drop, length-drop}
 use Rattle.lists.specs.Numbers.{factorial}
 use Rattle.lists.specs.Blocks.{block, blocks}
-use Rattle.lists.proofs.Blocks.{blocks-cong}
+use Rattle.lists.proofs.Blocks.{blocks-cong, block-drop}
 use Rattle.lists.proofs.Parts.{next-block}
 use Rattle.algebra.specs.Element.{plus, scale}
 use Rattle.algebra.specs.Nested.{Counted, free, _⧺_, row, _⊞_, _⊠_, sumRow, part, level, nestedAct}
 use Rattle.algebra.proofs.Level.{row-value}
-use Rattle.algebra.proofs.PairLists.{block-drop}
 use Rattle.algebra.proofs.NestedLetter.{nested-none}
 use Rattle.element_calls.specs.declared.Parameters.{Parameters}
 use Rattle.element_calls.specs.Coefficients.{ring}

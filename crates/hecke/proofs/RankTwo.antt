@@ -54,7 +54,7 @@ module _ (p : Parameters) where
   -- ---- all of them
 
   six-words : (x w : List ℕ) → length x ≡ 6 → 2 ≤ length w → whole x w ≡ acted p 2 2 2 x
-  unfolding acted nestedAct level part sumRow row free _⧺_ _⊞_ _⊠_ block factorial plus scale zipped exchanged
+  unfolding exchanging acted nestedAct level part sumRow row free _⧺_ _⊞_ _⊠_ block factorial plus scale zipped exchanged
   six-words [] w e l = absurd (omega arith)
   six-words (a ∷ []) w e l = absurd (omega arith)
   six-words (a ∷ b ∷ []) w e l = absurd (omega arith)

@@ -1,4 +1,4 @@
--- The letters of a word act one by one. Rests on algebra's OnPairs.
+-- The letters of a word act one by one. Rests on algebra's Generator and OnPairs.
 --
 --   Acting p m word x₀ x i   the first i letters of the word have acted on x₀, of rank m, which is now x
 use mathlib.Core.Path.{_≡_, refl, sym, ap, _∙_}
@@ -9,17 +9,18 @@ use lib.ListN.{length, getD, take}
 use lib.Seq.{take-suc, take-all}
 use Rattle.lists.specs.Numbers.{factorial}
 use Rattle.algebra.specs.Product.{letter, act}
-use Rattle.algebra.proofs.OnPairs.{letter-onPairs, onPairs-length}
+use Rattle.algebra.proofs.Generator.{letter-onPairs}
+use Rattle.algebra.proofs.OnPairs.{onPairs-length}
 use Rattle.element_calls.specs.declared.Parameters.{Parameters}
 use Rattle.element_calls.specs.Coefficients.{ring}
-use Rattle.hecke.specs.Steps.{exchanging, lettered}
+use Rattle.hecke.specs.Steps.{exchanging, exchanging, lettered}
 
 module _ (p : Parameters) (m : ℕ) where
   abbrev acts : List ℕ → List ℕ → List ℕ
   acts word x = act ℕ (ring p) (p .q) (p .r) m word x
 
   acts-last : (word : List ℕ) (i : ℕ) (x : List ℕ) → acts (word ++ (i ∷ [])) x ≡ lettered p m i (acts word x)
-  unfolding act
+  unfolding exchanging act
   acts-last [] i x = letter-onPairs ℕ (ring p) (p .q) (p .r) m i x
   acts-last (k ∷ word) i x = acts-last word i (letter ℕ (ring p) (p .q) (p .r) m k x)
 

@@ -25,7 +25,7 @@ use Rattle.element_calls.specs.declared.Parameters.{Parameters}
 use Rattle.element_calls.specs.Coefficients.{ring}
 
 module _ (p : Parameters) where
-  abbrev pub exchanging : OnPair ℕ
+  unfoldable pub exchanging : OnPair ℕ
   exchanging = forward ℕ (ring p) (p .q) (p .r)
 
   abbrev pub lettered : (m j : ℕ) → List ℕ → List ℕ

@@ -62,7 +62,7 @@ fn fold_into(d: &mut [u64], s: &[u64], p: Parameters)
 }
 
 // q times the second of two blocks of b words in the place of the first, from the end.
-fn lower(x: &mut [u64], b: usize, p: Parameters)
+fn move_down(x: &mut [u64], b: usize, p: Parameters)
     requires { ⌜ length (now x) ≡ b + b ⌝ }
     ensures { λ _. ⌜ now (x .exit) ≡ scale ℕ (ring p) (p .q) (drop b (now (x .entry))) ++ drop b (now (x .entry)) ⌝ }
 {
@@ -121,7 +121,7 @@ pub(crate) fn shift(x: &mut [u64], sum: &mut [u64], b: usize, l: usize, p: Param
     for i in 0..l {
         let at = i * b;
         let end = at + b + b;
-        lower(&mut x[at..end], b, p);
+        move_down(&mut x[at..end], b, p);
     }
     let top = l * b;
     copy(&mut x[top..], &sum[0..b]);

@@ -12,7 +12,7 @@ ghost use Rattle.algebra.specs.Product.{act, times};
 ghost use Rattle.algebra.specs.Cost.{C};
 ghost use Rattle.element_calls.specs.Coefficients.{ring, parametersOf};
 ghost use Rattle.machine.specs.Registers.{element, put, zeros};
-ghost use Rattle.machine.specs.Steps.{Registers, LetterPre, BinaryPre};
+ghost use Rattle.machine.specs.Steps.{Registers, RegisterLetterPre, BinaryPre};
 
 // The words of a register from its front on, as many as d has.
 fn load(d: &mut [u64], x: &[u64], r: usize)
@@ -66,7 +66,7 @@ pub(crate) fn set_coefficient(
 }
 
 pub(crate) fn letter(x: &mut [u64], m: usize, size: usize, q: u64, r: usize, i: u8) -> u64
-    requires { ⌜ LetterPre m size r i (now x) ⌝ }
+    requires { ⌜ RegisterLetterPre m size r i (now x) ⌝ }
     ensures { λ n. ⌜ (let p = parametersOf q in
         now (x .exit) ≡ put r (act ℕ (ring p) (p .q) (p .r) m (i ∷ []) (element m r (now (x .entry)))) (now (x .entry)))
         × (n ≡ 3 * factorial (suc m) / 2) ⌝ }

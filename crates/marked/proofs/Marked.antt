@@ -1,6 +1,6 @@
 -- Every row of the table of marked cases holds, by computation.
 use mathlib.Core.Path.{refl}
-use Rattle.ring.specs.Modular.{modular, words}
+use Rattle.ring.specs.Modular.{modular}
 use Rattle.lists.specs.Lists.{All, same, less, range, first, tally}
 use Rattle.lists.specs.Numbers.{factorial, series}
 use Rattle.lists.specs.Blocks.{block, blocks}

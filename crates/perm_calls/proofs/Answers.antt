@@ -16,7 +16,7 @@ use Rattle.perms.specs.Tower.{Tower, standard, imagesOf, mask, number}
 use Rattle.perms.proofs.Lengths.{len-imagesOf, length-standard}
 use Rattle.perms.proofs.Mask.{mask-lt, ones-mask, number-tally, mask-set}
 use Rattle.perm_calls.specs.Calls.{towerVerdict, room, standardWordCall, descentsCall}
-use Rattle.perm_calls.specs.Claims.{DescentSet, Spells, Answers}
+use Rattle.perm_calls.specs.Claims.{DescentSet, WordResult, Answers}
 use Rattle.perm_calls.specs.declared.Counted.the-variants as C
 use Rattle.perm_calls.proofs.Accepted.{accept-tower}
 
@@ -49,7 +49,7 @@ descent-set t h c = record {
 
 -- the standard word has ℓ letters, and stands before the rest of the buffer
 word-spelled : (t buffer : List ℕ) → length t ≤ 63 → Tower (length t) t → len (imagesOf t) ≤ length buffer
-    → Spells (len (imagesOf t)) (standard t) buffer (standardWordCall t buffer)
+    → WordResult (len (imagesOf t)) (standard t) buffer (standardWordCall t buffer)
 unfolding standardWordCall room
 word-spelled t buffer h c f = rw whole (record {
   count = refl;

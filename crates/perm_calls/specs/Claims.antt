@@ -4,7 +4,7 @@
 --   Refusals               a call that is refused counts 0 and leaves its buffer as it was
 --   DescentSet m w a       for a permutation w of rank m, the answer a is a mask and a number: bit i - 1 is set exactly where ℓ(s_i w) < ℓ(w),
 --                          no other bit is set, and the number is that of these s_i, and of the set bits
---   Spells n x b c         a call c on the buffer b counts n, makes x the first n bytes of the buffer, and leaves those after them as they were
+--   WordResult n x b c     a call c on the buffer b counts n, makes x the first n bytes of the buffer, and leaves those after them as they were
 --   Answers                both, for each tower within document 01's sizes
 use mathlib.Core.Path.{_≡_}
 use mathlib.Core.Logic.{_↔_}
@@ -48,7 +48,7 @@ pub record DescentSet (m : ℕ) (w : List ℕ) (answer : Generators) : Type 0 wh
   pub number : size ≡ tally (λ i. less (len (product (generator m i) w)) (len w)) (range 1 m)
   pub set-bits : size ≡ ones bits
 
-pub record Spells (n : ℕ) (word buffer : List ℕ) (call : Outcome Counted (List ℕ)) : Type 0 where
+pub record WordResult (n : ℕ) (word buffer : List ℕ) (call : Outcome Counted (List ℕ)) : Type 0 where
   pub count : call .answer ≡ Count n
   pub letters : take n (call .lent) ≡ word
   pub after : drop n (call .lent) ≡ drop n buffer
@@ -56,4 +56,4 @@ pub record Spells (n : ℕ) (word buffer : List ℕ) (call : Outcome Counted (Li
 pub record Answers : Type 0 where
   pub descents : (t : List ℕ) → length t ≤ 63 → Tower (length t) t → DescentSet (length t) (imagesOf t) (descentsCall t)
   pub word : (t buffer : List ℕ) → length t ≤ 63 → Tower (length t) t → len (imagesOf t) ≤ length buffer
-      → Spells (len (imagesOf t)) (standard t) buffer (standardWordCall t buffer)
+      → WordResult (len (imagesOf t)) (standard t) buffer (standardWordCall t buffer)

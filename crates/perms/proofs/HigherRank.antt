@@ -1,4 +1,4 @@
--- A shortest word of rank l is one of every rank m ≥ l, of the permutation that also fixes the points up to m + 1. Rests on Extend and CycleReduced.
+-- A shortest word of rank l is one of every rank m ≥ l, of the permutation that also fixes the points up to m + 1. Rests on Extend, Reduced and CycleReduced.
 --
 --   higher l k v    v of rank l as the permutation of rank l + k that also fixes the points from l + 2 on
 use mathlib.Core.Path.{_≡_, refl, sym, ap, _∙_, subst}

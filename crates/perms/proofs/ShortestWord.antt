@@ -1,5 +1,5 @@
 -- The word of a permutation by its descents is a shortest word of it: a permutation other than the identity has a descent, the first letter of any
--- shortest word of it, and at a descent it becomes one shorter. Rests on Reduced, Lengths and lists' First.
+-- shortest word of it, and at a descent it becomes one shorter. Rests on Reduced, LeftRight, Longer, Lengths and lists' First.
 use mathlib.Core.Path.{_≡_, refl, sym, ap, _∙_}
 use mathlib.Core.Bool.{true}
 use mathlib.Core.List.{List, [], _∷_}
@@ -11,6 +11,7 @@ use Rattle.lists.proofs.First.{first-holds}
 use Rattle.perms.specs.Permutation.{Perm, product, identity, generator, len, descent, Letter, ofWord, Shortest}
 use Rattle.perms.specs.Tower.{towerOf, standard}
 use Rattle.perms.specs.ShortestWord.{firstLetters, shortestWord}
+use Rattle.perms.specs.Laws.{ByDescents}
 use Rattle.perms.proofs.Perm.{lft, lft-lft, perm-lft}
 use Rattle.perms.proofs.Identity.{perm-identity}
 use Rattle.perms.proofs.Products.{generator-product}
@@ -84,6 +85,6 @@ firstLetters-short (suc n) m v p e =
     let d = least-descends v p e in
     short-before v p (d .0) _ (d .1) (firstLetters-short n m _ (rest-perm v p (d .0)) (omega (arith, rest-len v p (d .0) (d .1))))
 
-pub shortestWord-shortest : (m : ℕ) (v : List ℕ) → Perm m v → Shortest m (shortestWord m v) v
+pub shortestWord-shortest : (m : ℕ) → ByDescents m
 unfolding shortestWord
 shortestWord-shortest m v p = firstLetters-short (len v) m v p refl

@@ -3,6 +3,7 @@
 --   Group           the permutations of rank m are a group under the product
 --   at t i          the entry a_i of a tower t, with a_0 = 0
 --   Towers          towers and permutations undo each other; tower product and inverse; lengths, standard words and descents
+--   ByDescents      the word that is found by descents is a shortest word
 --   a m j k         a(j, k) as a permutation of rank m
 --   Proposition2-6  the four lines on a(m, k) a(j, l), for 1 ≤ j ≤ m, k ≤ m and l ≤ j
 use mathlib.Core.Path.{_≡_}
@@ -12,6 +13,7 @@ use mathlib.Core.List.{List, _∷_}
 use Prim.Native.Nat.{ℕ, pred, _+_, _-_, _≤_, _<_}
 use lib.ListN.{getD}
 use Rattle.perms.specs.Permutation.{Perm, product, identity, inverse, generator, len, descent, Letter, ofWord, Shortest}
+use Rattle.perms.specs.ShortestWord.{shortestWord}
 use Rattle.perms.specs.Tower.{towerOf, Tower, cycle, standard, imagesOf, total}
 
 pub record Group (m : ℕ) : Type 0 where
@@ -38,6 +40,9 @@ pub record Towers (m : ℕ) : Type 0 where
   pub length-total : (w : List ℕ) → Perm m w → total (towerOf w) ≡ len w
   pub standard-shortest : (w : List ℕ) → Perm m w → Shortest m (standard (towerOf w)) w
   pub descents : (w : List ℕ) → Perm m w → (i : ℕ) → Letter m i → (descent m w i ≡ true) ↔ (at (towerOf w) (pred i) < at (towerOf w) i)
+
+abbrev pub ByDescents : ℕ → Type 0
+ByDescents m = (v : List ℕ) → Perm m v → Shortest m (shortestWord m v) v
 
 abbrev pub a : ℕ → ℕ → ℕ → List ℕ
 a m j k = ofWord m (cycle j k)

@@ -1,6 +1,6 @@
 -- The wrapping sum is the sum modulo 2^64.
 use borrow.Author.Needs.{needs}
-use Rattle.ring.specs.Modular.{modular, words}
+use Rattle.ring.specs.Modular.{modular}
 use Rattle.ring.proofs.add.Statement.{statement}
 use Rattle.ring.proofs.add.Tie as tie
 

@@ -5,7 +5,7 @@ use native.Mathlib.Omega.{arith}
 use lib.Pow.{shr-lt}
 use lib.Bits.{bitAnd, mask-lt}
 use borrow.Author.Needs.{needs}
-use Rattle.ring.specs.Modular.{modular, words}
+use Rattle.ring.specs.Modular.{modular}
 use Rattle.ring.proofs.Halves.{half-product, mul-by-halves}
 use Rattle.ring.proofs.mul.Statement.{statement}
 use Rattle.ring.proofs.mul.Tie as tie

@@ -11,6 +11,7 @@ use Rattle.algebra.proofs.Lists.{plus-length, scale-length}
 use Rattle.algebra.proofs.PairLists.{exchanged-forward}
 use Rattle.word_lists.proofs.Loops.{plus-next, scale-next}
 use Rattle.element_calls.specs.Coefficients.{modulus}
+use Rattle.hecke.specs.Steps.{exchanging}
 use Rattle.hecke.proofs.Exchange.{Exchanged, low-size, high-size, exchanged-none, exchanged-more, exchanged-low, exchanged-high, exchanged-all}
 use Rattle.hecke.proofs.blocks.exchange.Statement.{statement}
 use Rattle.hecke.proofs.blocks.exchange.Tie as tie
@@ -60,7 +61,7 @@ same-length : tie.Need-same-length Inv-loop μ-loop
 same-length c = c .before .loop .inv .1 .same
 
 returns : tie.Need-returns Inv-loop μ-loop
-unfolding modulus
+unfolding modulus exchanging
 returns c = let at = c .before in let u = start at .args in let s = take (u .b) (u .x .now) in let t = drop (u .b) (u .x .now) in
     let low = low-size (u .b) (u .x .now) (start at .pre) in let high = high-size (u .b) (u .x .now) (start at .pre) in
     let multiple : (k : ℕ) → length (scale ℕ words k t) ≡ u .b = λ k. scale-length ℕ words k t ∙ high in

@@ -61,13 +61,13 @@ loop-holds c = (omega arith, passed-none _ _ _)
 inside : (c : tie.In-loop Inv-loop μ-loop) → let at = c .before in let b = start at .args .b in at .loop .i * b + b + b ≤ length (at .loop .x)
 inside c = let at = c .before in omega (arith, pair-fits (start at .args .b) (c .loop-test .taken) (start at .pre .0), at .loop .inv .1 .same)
 
-lower-requires : tie.Need-lower-requires Inv-loop μ-loop
-lower-requires c κs = let at = c .before .before in pair-size (start at .args .b) (at .loop .i) (at .loop .x) (inside (c .before))
+move-down-requires : tie.Need-move-down-requires Inv-loop μ-loop
+move-down-requires c κs = let at = c .before .before in pair-size (start at .args .b) (at .loop .i) (at .loop .x) (inside (c .before))
 
 loop-again : tie.Need-loop-again Inv-loop μ-loop
 loop-again c =
     let within = in-loop c in let at = within .before in
-    (omega arith, moved-more (start at .args .p) (at .loop .inv .1) (inside within) (c .before .before .lower .ensures))
+    (omega arith, moved-more (start at .args .p) (at .loop .inv .1) (inside within) (c .before .before .move-down .ensures))
 
 -- ---- after it
 
@@ -106,7 +106,7 @@ shift-spec =
     tie.close
     (tie.spec Inv-loop μ-loop (λ c. search needs) (λ c. search needs) (λ c. search needs) (λ c. search needs) (λ c. search needs) part-fold-into-end-2
     fold-into-requires loop-holds (λ c. omega (arith, inside c)) (λ c. omega (arith, inside c)) (λ c. omega (arith, inside c))
-    (λ c. omega (arith, inside c)) (λ c. omega (arith, inside c)) (λ c. omega (arith, inside c)) (λ c. inside c) lower-requires (λ c. omega arith)
+    (λ c. omega (arith, inside c)) (λ c. omega (arith, inside c)) (λ c. omega (arith, inside c)) (λ c. inside c) move-down-requires (λ c. omega arith)
     (λ c. omega arith) loop-again (λ c. omega (arith, top (c .before))) (λ c. omega (arith, top (c .before))) (λ c. omega (arith, top (c .before)))
     (λ c. omega (arith, top (c .before))) (λ c. omega arith) (λ c. omega arith) (λ c. omega arith) part-copy-end-2 copy-requires
     same-length (λ c. sum-size (passed (c .before .before .before))) returns)

@@ -18,20 +18,23 @@ abbrev μ-loop : tie.MeasureT-loop
 loop-holds : tie.Need-loop-holds Inv-loop μ-loop
 loop-holds c = (omega arith, passed-none _ _ _)
 
+abbrev start : tie.In-loop Inv-loop μ-loop → tie.Start Inv-loop μ-loop
+start c = c .before .before .before
+
 -- the loop's block is within x
 fits : (c : tie.In-loop Inv-loop μ-loop) → c .before .loop .k * 6 + 6 ≤ length (c .before .loop .x)
 fits c =
-    let at = c .before .loop in let start = c .before .before .before in
-    fits-block (at .k) (start .args .n) 6 (length (at .x)) (c .loop-test .taken) (omega (arith, at .inv .1 .same, start .pre .size))
+    let at = c .before .loop in let s = start c in
+    fits-block (at .k) (s .args .n) 6 (length (at .x)) (c .loop-test .taken) (omega (arith, at .inv .1 .same, s .pre .size))
 
 letter-requires : tie.Need-letter-of-rank-two-requires Inv-loop μ-loop
 letter-requires c κs =
     let at = c .before .before .loop in
-    let start = c .before .before .before .before in
+    let s = start (c .before) in
     record {
       rank = omega arith;
-      letter = start .pre .letter (omega arith);
-      size = part-size 6 (at .k) (at .x) (fits (c .before)) ∙ start .pre .block-size;
+      letter = s .pre .letter (omega arith);
+      size = part-size 6 (at .k) (at .x) (fits (c .before)) ∙ s .pre .block-size;
     }
 
 loop-again : tie.Need-loop-again Inv-loop μ-loop

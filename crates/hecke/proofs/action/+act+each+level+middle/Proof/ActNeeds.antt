@@ -6,7 +6,7 @@ use native.Mathlib.Omega.{arith}
 use Rattle.algebra.proofs.NestedLetter.{nested-letter}
 use Rattle.element_calls.specs.declared.Parameters.{Parameters}
 use Rattle.element_calls.specs.Coefficients.{ring}
-use Rattle.hecke.specs.Steps.{lettered, acted, LetterPre, ActPre}
+use Rattle.hecke.specs.Steps.{exchanging, lettered, acted, LetterPre, ActPre}
 use Rattle.hecke.proofs.Pieces.{acted-none}
 use Rattle.hecke.proofs.action.+act+each+level+middle.Proof.Measures.{act-at, level-below}
 use Rattle.hecke.proofs.action.act.Reads as act
@@ -20,7 +20,7 @@ letter-pre : {m j l : ℕ} {x w : List ℕ} → ActPre m j l x w → l ≡ 1 →
 letter-pre c e = record { rank = c .rank; letter = record { low = omega (arith, c .within); high = c .below }; size = c .size }
 
 letter-acted : {m j l : ℕ} {x w v : List ℕ} (p : Parameters) → ActPre m j l x w → l ≡ 1 → v ≡ lettered p m j x → v ≡ acted p m j l x
-unfolding acted
+unfolding exchanging acted
 letter-acted {m} {j} {x = x} p c one e =
     let pre = letter-pre c one in
     e ∙ sym (nested-letter ℕ (ring p) (p .q) (p .r) m j x (pre .letter) (pre .size)) ∙ ap (λ n. acted p m j n x) (sym one)

@@ -7,7 +7,7 @@ use native.Mathlib.Omega.{arith}
 use lib.ListN.{length}
 use borrow.Rule.Slice.PartMut.{putMid, same-len-mid}
 use Rattle.lists.proofs.Parts.{fits-block}
-use Rattle.hecke.proofs.Middle.{step-pre, Gathered, gathered-none, gathered-more, gathered-all}
+use Rattle.hecke.proofs.Middle.{step-pre, PartsDone, parts-done-none, parts-done-more, parts-done-all}
 use Rattle.hecke.proofs.action.+act+each+level+middle.Proof.Measures.{middle-at, act-below}
 use Rattle.hecke.proofs.action.act.Reads as act
 use Rattle.hecke.proofs.action.middle.Reads as middle
@@ -16,7 +16,7 @@ use Rattle.hecke.proofs.blocks.collect.Reads as collect-reads
 use Rattle.hecke.proofs.blocks.shift.Reads as shift-reads
 
 abbrev Inv-loop : lts.InvT-loop
-Inv-loop x₀ work₀ m b j l p i₀ x work i = (i ≤ l) × Gathered p m j l b x₀ x work₀ work i
+Inv-loop x₀ work₀ m b j l p i₀ x work i = (i ≤ l) × PartsDone p m j l b x₀ x work₀ work i
 
 abbrev μ-loop : lts.MeasureT-loop
 μ-loop x₀ work₀ m b j l p i₀ x work i = l - i
@@ -107,7 +107,7 @@ module _ (t : ℕ) where
   loop-again c =
       let z = second c in let s = summed (z .before .before .before) in let a = first s in let at = step a .before .loop in (
         omega arith,
-        gathered-more (at .inv .1) (fits (step a)) (a .act .last .0) (a .act .last .1 .0) (a .act .ensures) (a .act .kept .0) (a .act .kept .1 .0)
+        parts-done-more (at .inv .1) (fits (step a)) (a .act .last .0) (a .act .last .1 .0) (a .act .ensures) (a .act .kept .0) (a .act .kept .1 .0)
             (s .collect .last .0) (z .act2 .last .0) (z .act2 .last .1 .0) (enough (step a .before)) (s .collect .kept .0) (s .collect .ensures)
             (z .act2 .ensures) (z .act2 .kept .0) (z .act2 .kept .1 .0),
       )
@@ -127,14 +127,14 @@ module _ (t : ℕ) where
   returns c =
       let s = moved c in let at = ended s in let u = start at .args in
       let all : at .loop .i ≡ u .l = omega (arith, s .before .before .before .loop-test .left) in
-      gathered-all (omega (arith, start at .pre .1 .more)) (start at .pre .1 .size)
-      (subst (Gathered (u .p) (u .m) (u .j) (u .l) (u .b) (u .x .now) (at .loop .x) (u .work .now) (at .loop .work)) all (at .loop .inv .1))
+      parts-done-all (omega (arith, start at .pre .1 .more)) (start at .pre .1 .size)
+      (subst (PartsDone (u .p) (u .m) (u .j) (u .l) (u .b) (u .x .now) (at .loop .x) (u .work .now) (at .loop .work)) all (at .loop .inv .1))
       (s .shift .ensures)
 
   pub middle-closed : {M : Type 1} → lts.Closed claims (middle-at t) middle.Post M
   middle-closed =
       lts.spec claims (middle-at t) middle.Post Inv-loop μ-loop
-      (λ c. let u = c .before .before .args in (omega arith, gathered-none (u .p) (u .m) (u .j) (u .l) (u .b) (u .x .now) (u .work .now)))
+      (λ c. let u = c .before .before .args in (omega arith, parts-done-none (u .p) (u .m) (u .j) (u .l) (u .b) (u .x .now) (u .work .now)))
       (λ c. omega arith)
       (λ c. omega (arith, fits c))
       (λ c. omega (arith, fits c))

@@ -1,5 +1,5 @@
 -- What `letter` needs, with `exchanging p` as any operator on pairs: an exchange at rank 1, the letter of rank 2, and else the three parts of x. Rests on
--- Cuts, LowRanks and LetterCut.
+-- EachNeeds, LowRanks, LetterCut and lists' Cuts.
 use mathlib.Core.Path.{sym, ap, _∙_, subst}
 use Prim.Native.Nat.{ℕ, _+_, _*_, _-_, _≤_, _<_}
 use native.Mathlib.Omega.{arith}

@@ -1,4 +1,4 @@
--- The loop writes the words of the multiple over the first block, from the end. Rests on Lowered.
+-- The loop writes the words of the multiple over the first block, from the end. Rests on Lowered and Exchange.
 use mathlib.Core.Path.{_∙_}
 use Prim.Native.Nat.{ℕ, _-_, _≤_}
 use native.Mathlib.Omega.{arith}
@@ -11,8 +11,8 @@ use Rattle.word_lists.proofs.Loops.{scale-next}
 use Rattle.element_calls.specs.Coefficients.{modulus}
 use Rattle.hecke.proofs.Exchange.{high-size}
 use Rattle.hecke.proofs.Lowered.{Lowered, lowered-none, lowered-more, lowered-high, lowered-all}
-use Rattle.hecke.proofs.blocks.lower.Statement.{statement}
-use Rattle.hecke.proofs.blocks.lower.Tie as tie
+use Rattle.hecke.proofs.blocks.move_down.Statement.{statement}
+use Rattle.hecke.proofs.blocks.move_down.Tie as tie
 
 abbrev Inv-loop : tie.InvT-loop
 Inv-loop x₀ b p i₀ x i = (i ≤ b) × Lowered b (scale ℕ words (p .q) (drop b x₀)) x₀ x i
@@ -44,8 +44,8 @@ returns c =
     lowered-all (c .before .loop .inv .1) (start .pre) (omega arith)
     (scale-length ℕ words (u .p .q) (drop (u .b) (u .x .now)) ∙ high-size (u .b) (u .x .now) (start .pre))
 
-pub lower-spec : {M : Type 1} → statement M
-lower-spec =
+pub move-down-spec : {M : Type 1} → statement M
+move-down-spec =
     tie.close
     (tie.spec Inv-loop μ-loop loop-holds (λ c. omega arith) (λ c. omega arith) (λ c. omega arith) (λ c. omega arith) (λ c κs. search needs)
     (λ c. omega arith) (λ c. omega arith) (λ c. omega arith) loop-again same-length returns)
