@@ -89,8 +89,8 @@ module _ (A : Type 0) (o : Ops A) (f : OnPair A) (m j : ℕ) (h : List A) (jm : 
       middle : X (a + 0) ++ X (a + 1) ≡ exchanged f B (take (B + B) (drop (a * B) h))
       middle =
           let x : a + 0 ≡ a = omega arith in
-          let room : (a + 2) * B ≤ suc (suc m) * B = mul-le-mul-right B (omega arith) in
-          ap₂ {C = List A} (λ u v. u ++ v) (ap X x ∙ onPairs-upper) onPairs-lower ∙ sym (exchanged-blocks f B a h (omega (arith, e, room)))
+          let inside : (a + 2) * B ≤ suc (suc m) * B = mul-le-mul-right B (omega arith) in
+          ap₂ {C = List A} (λ u v. u ++ v) (ap X x ∙ onPairs-upper) onPairs-lower ∙ sym (exchanged-blocks f B a h (omega (arith, e, inside)))
 
       last : blocks j (λ k. X (a + (2 + k))) ≡ blocks (suc j - 1) (λ k. onPairs A o f m (suc j - 1) (block B k (drop ((a + 2) * B) h)))
       last =

@@ -34,7 +34,7 @@ positive m = omega (arith, place-below m (identity m) (perm-identity m))
 module _ (A : Type 0) (o : Ops A) (m : ℕ) where
   pub unit-zeros : unit A o m ≡ set (replicate (factorial (suc m)) (o .zero)) 0 (o .one)
   unfolding unit
-  unit-zeros = ext-getD (o .zero) (unit A o m) (set zs 0 (o .one)) (size ∙ sym (length-set zs 0 (o .one) ∙ room)) (λ i l. at i (omega (arith, size)))
+  unit-zeros = ext-getD (o .zero) (unit A o m) (set zs 0 (o .one)) (size ∙ sym (length-set zs 0 (o .one) ∙ zeros-size)) (λ i l. at i (omega (arith, size)))
     where
       M : ℕ
       M = factorial (suc m)
@@ -45,12 +45,12 @@ module _ (A : Type 0) (o : Ops A) (m : ℕ) where
       size : length (unit A o m) ≡ M
       size = basis-length A o m (identity m)
 
-      room : length zs ≡ M
-      room = length-replicate M (o .zero)
+      zeros-size : length zs ≡ M
+      zeros-size = length-replicate M (o .zero)
 
       at : (i : ℕ) → i < M → getD (unit A o m) i (o .zero) ≡ getD (set zs 0 (o .one)) i (o .zero)
       at zero l =
-          basis-at A o m (identity m) 0 l ∙ rw (same-yes {x = 0} (sym (place-identity m))) (sym (getD-set-same zs 0 (o .one) (o .zero) (omega (arith, room))))
+          basis-at A o m (identity m) 0 l ∙ rw (same-yes {x = 0} (sym (place-identity m))) (sym (getD-set-same zs 0 (o .one) (o .zero) (omega (arith, zeros-size))))
       at (suc i) l =
           basis-at A o m (identity m) (suc i) l ∙ rw (same-no {x = suc i} {a = place (identity m)} (λ e. omega (arith, place-identity m)))
           (sym (getD-set-other zs 0 (suc i) (o .one) (o .zero) (λ e. omega arith) ∙ getD-replicate {A = A} M (suc i) (o .zero) (o .zero) l))

@@ -1,11 +1,11 @@
 -- What each call answers and leaves where it is taken: `xChecks` is the verdict of the call x. Rests on Calls.
-use mathlib.Core.Path.{_≡_, refl, sym, _∙_}
+use mathlib.Core.Path.{_≡_, ap}
 use mathlib.Core.List.{List, _++_}
 use Prim.Native.Nat.{ℕ, suc, _+_, _*_, _/_}
 use lib.ListN.{length, drop, replicate}
 use Rattle.ring.specs.Modular.{words}
 use Rattle.lists.specs.Numbers.{factorial}
-use Rattle.refusals.specs.Refusals.{_then_, ended}
+use Rattle.refusals.specs.Refusals.{_then_}
 use Rattle.refusals.specs.declared.Verdict.{Verdict}
 use Rattle.algebra.specs.Element.{plus, scale}
 use Rattle.algebra.specs.Product.{act, times}
@@ -15,7 +15,7 @@ use Rattle.element_calls.specs.declared.Parameters.{Parameters}
 use Rattle.element_calls.specs.Coefficients.{ring, parametersOf}
 use Rattle.element_calls.specs.Calls.{rankVerdict, sizeVerdict, scratchVerdict, wordVerdict, sumCall, scaleCall, actWordCall, productCall}
 use Rattle.element_calls.specs.Claims.{Taken}
-use Rattle.element_calls.proofs.Calls.{write-verdict}
+use Rattle.element_calls.proofs.Calls.{write-verdict, write-lent, write-count}
 
 module _ (m : ℕ) (h g result : List ℕ) where
   abbrev sumChecks : Verdict
@@ -26,12 +26,12 @@ module _ (m : ℕ) (h g result : List ℕ) where
   sum-verdict = write-verdict sumChecks _ _ _
 
   pub sum-lent : Taken (sumCall m h g result .answer) → sumCall m h g result .lent ≡ plus ℕ words h g
-  unfolding sumCall ended
-  sum-lent t = rw (sym sum-verdict ∙ t) refl
+  unfolding sumCall
+  sum-lent t = write-lent sumChecks _ _ _ t
 
   pub sum-counted : Taken (sumCall m h g result .answer) → sumCall m h g result .answer .count ≡ factorial (suc m)
-  unfolding sumCall ended
-  sum-counted t = rw (sym sum-verdict ∙ t) refl
+  unfolding sumCall
+  sum-counted t = write-count sumChecks _ _ _ t
 
 module _ (m c : ℕ) (h result : List ℕ) where
   abbrev scaleChecks : Verdict
@@ -42,12 +42,12 @@ module _ (m c : ℕ) (h result : List ℕ) where
   scale-verdict = write-verdict scaleChecks _ _ _
 
   pub scale-lent : Taken (scaleCall m c h result .answer) → scaleCall m c h result .lent ≡ scale ℕ words c h
-  unfolding scaleCall ended
-  scale-lent t = rw (sym scale-verdict ∙ t) refl
+  unfolding scaleCall
+  scale-lent t = write-lent scaleChecks _ _ _ t
 
   pub scale-counted : Taken (scaleCall m c h result .answer) → scaleCall m c h result .answer .count ≡ factorial (suc m)
-  unfolding scaleCall ended
-  scale-counted t = rw (sym scale-verdict ∙ t) refl
+  unfolding scaleCall
+  scale-counted t = write-count scaleChecks _ _ _ t
 
 module _ (m q : ℕ) (x h : List ℕ) where
   abbrev p : Parameters
@@ -61,12 +61,12 @@ module _ (m q : ℕ) (x h : List ℕ) where
   act-verdict = write-verdict actChecks _ _ _
 
   pub act-lent : Taken (actWordCall m q x h .answer) → actWordCall m q x h .lent ≡ act ℕ (ring p) (p .q) (p .r) m x h
-  unfolding actWordCall ended
-  act-lent t = rw (sym act-verdict ∙ t) refl
+  unfolding actWordCall
+  act-lent t = write-lent actChecks _ _ _ t
 
   pub act-counted : Taken (actWordCall m q x h .answer) → actWordCall m q x h .answer .count ≡ length x * (3 * factorial (suc m) / 2)
-  unfolding actWordCall ended
-  act-counted t = rw (sym act-verdict ∙ t) refl
+  unfolding actWordCall
+  act-counted t = write-count actChecks _ _ _ t
 
 module _ (m q : ℕ) (h g result scratch : List ℕ) where
   abbrev productChecks : Verdict
@@ -79,15 +79,15 @@ module _ (m q : ℕ) (h g result scratch : List ℕ) where
 
   pub product-lent : Taken (productCall m q h g result scratch .answer)
       → let p = parametersOf q in productCall m q h g result scratch .lent .result ≡ times ℕ (ring p) (p .q) (p .r) m m h g
-  unfolding productCall ended
-  product-lent t = rw (sym product-verdict ∙ t) refl
+  unfolding productCall
+  product-lent t = ap (λ b. b .result) (write-lent productChecks _ _ _ t)
 
   pub product-cleared : Taken (productCall m q h g result scratch .answer)
       → productCall m q h g result scratch .lent .scratch ≡ replicate ((m + 6) * factorial (suc m)) 0 ++ drop ((m + 6) * factorial (suc m)) scratch
-  unfolding productCall ended needed
-  product-cleared t = rw (sym product-verdict ∙ t) refl
+  unfolding productCall needed
+  product-cleared t = ap (λ b. b .scratch) (write-lent productChecks _ _ _ t)
 
   pub product-counts : Taken (productCall m q h g result scratch .answer)
       → let p = parametersOf q in productCall m q h g result scratch .answer .count ≡ operations (nested ℕ (ring p) (p .q) (p .r) m m h g .count)
-  unfolding productCall ended
-  product-counts t = rw (sym product-verdict ∙ t) refl
+  unfolding productCall
+  product-counts t = write-count productChecks _ _ _ t

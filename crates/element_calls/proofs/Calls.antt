@@ -15,6 +15,7 @@ use Rattle.algebra.proofs.Counts.{counts}
 use Rattle.element_calls.specs.declared.Parameters.{Parameters}
 use Rattle.element_calls.specs.Coefficients.{ring, Coefficient}
 use Rattle.element_calls.specs.Calls.{write}
+use Rattle.element_calls.specs.Claims.{Taken}
 
 module _ {A : Type 0} where
   pub write-done : {v : Verdict} {k : ℕ} {a : Answer} (old new last : A) (n : ℕ) → v ≡ Accepted → last ≡ new → k ≡ n → a ≡ accepted k
@@ -25,6 +26,16 @@ module _ {A : Type 0} where
   unfolding ended
   write-verdict Accepted old new n = refl
   write-verdict (Refused why) old new n = refl
+
+  pub write-lent : (v : Verdict) (old new : A) (n : ℕ) → Taken (write v old new n .answer) → write v old new n .lent ≡ new
+  unfolding ended
+  write-lent Accepted old new n t = refl
+  write-lent (Refused why) old new n t = let z : _≡_ {A = ℕ} 0 1 = cc in absurd (omega arith)
+
+  pub write-count : (v : Verdict) (old new : A) (n : ℕ) → Taken (write v old new n .answer) → write v old new n .answer .count ≡ n
+  unfolding ended
+  write-count Accepted old new n t = refl
+  write-count (Refused why) old new n t = let z : _≡_ {A = ℕ} 0 1 = cc in absurd (omega arith)
 
 pub product-counted : {m : ℕ} {h g : List ℕ} (p : Parameters) → Element (Coefficient p) m h → Element (Coefficient p) m g
     → operations (nested ℕ (ring p) (p .q) (p .r) m m h g .count) ≡ C m m

@@ -1,5 +1,5 @@
-// Lists of words: copied and added, and the moves of blocks that the action needs, for the parameters p. The parameters d and s
-// are the destination and the source.
+// Lists of words: copied and added, and the moves of blocks that the action needs, for the parameters p. In the first of them d is
+// the destination and s the source.
 
 ghost use mathlib.Core.Path.{_≡_};
 ghost use mathlib.Core.List.{_++_};

@@ -7,9 +7,8 @@ use native.Mathlib.Omega.{arith}
 use lib.ListN.{length}
 use Rattle.ring.specs.Modular.{words}
 use Rattle.lists.specs.Numbers.{factorial}
-use Rattle.refusals.specs.Refusals.{_then_, ended}
+use Rattle.refusals.specs.Refusals.{_then_}
 use Rattle.refusals.specs.declared.Verdict.{Verdict}
-use Rattle.refusals.specs.declared.Verdict.the-variants.{Accepted, Refused}
 use Rattle.refusals.specs.declared.Answer.{Answer}
 use Rattle.perms.specs.Permutation.{Word}
 use Rattle.algebra.specs.Element.{plus, scale}
@@ -21,15 +20,14 @@ use Rattle.element_calls.specs.Coefficients.{modulus, ring, parametersOf}
 use Rattle.element_calls.specs.Calls.{rankVerdict, sizeVerdict, wordVerdict, Buffers, write, sumCall, scaleCall, actWordCall, productCall}
 use Rattle.element_calls.specs.Claims.{Taken}
 use Rattle.element_calls.specs.Demand3.{Lawful}
+use Rattle.element_calls.proofs.Calls.{write-lent, write-count}
 use Rattle.element_calls.proofs.Answers.{product-lent}
 use Rattle.element_calls.proofs.Demand3.{demand-3}
 use Rattle.machine.proofs.Put.{Part}
 
 write-taken : {A : Type 0} {a : Answer} {last : A} (v : Verdict) (old new : A) (n : ℕ) → Taken (write v old new n .answer)
     → write v old new n ≡ record { answer = a; lent = last } → (last ≡ new) × (a .count ≡ n)
-unfolding ended
-write-taken Accepted old new n t e = (sym (ap (λ o. o .lent) e), sym (ap (λ o. o .answer .count) e))
-write-taken (Refused why) old new n t e = let z : _≡_ {A = ℕ} 0 1 = cc in absurd (omega arith)
+write-taken v old new n t e = (sym (ap (λ o. o .lent) e) ∙ write-lent v old new n t, sym (ap (λ o. o .answer .count) e) ∙ write-count v old new n t)
 
 module _ {m : ℕ} (rank : m ≤ 5) where
   D : (q : ℕ) → q < 2 ^ 64 → Lawful m q

@@ -28,9 +28,9 @@ pub totals : map (λ v. total (v .tower)) vectors ≡ map (λ v. v .length) vect
 unfolding total
 totals = refl
 
-pub words : map (λ v. standard (v .tower)) vectors ≡ map (λ v. v .word) vectors
+pub standard-words : map (λ v. standard (v .tower)) vectors ≡ map (λ v. v .word) vectors
 unfolding cycle cycles standard
-words = refl
+standard-words = refl
 
 pub word-images : map (λ v. ofWord (length (v .tower)) (v .word)) vectors ≡ map (λ v. v .images) vectors
 unfolding same range product identity swap generator ofWord

@@ -55,8 +55,8 @@ refusing c = c .before .before .before .before
 abbrev accepting : tie.After-act-letters → tie.After-enum-told
 accepting c = c .before .before .before
 
-abbrev acted : tie.After-size → tie.After-act-letters
-acted c = c .before .before .before
+abbrev all-acted : tie.After-size → tie.After-act-letters
+all-acted c = c .before .before .before
 
 -- ---- the needs
 
@@ -81,17 +81,17 @@ size-requires : tie.Need-size-requires
 size-requires c κs = good (accepting (c .before .before)) .rank
 
 mul-accepted : tie.Need-mul-accepted
-mul-accepted c = let g = good (accepting (acted c)) in omega (arith, size-small _ (g .rank), c .size .ensures)
+mul-accepted c = let g = good (accepting (all-acted c)) in omega (arith, size-small _ (g .rank), c .size .ensures)
 
 mul-accepted-2 : tie.Need-mul-accepted-2
 mul-accepted-2 c =
-    let g = good (accepting (acted c)) in
+    let g = good (accepting (all-acted c)) in
     record { fits = few _ _ (g .few) (omega (arith, size-small _ (g .rank), c .size .ensures)) }
 
 returns-2 : tie.Need-returns-2
 unfolding actWordCall
 returns-2 c =
-    let made = acted (c .before) in let told = accepting made in
+    let made = all-acted (c .before) in let told = accepting made in
     let u = start (told .before .before) .args in
     write-done _ _ _ _ (sym (row (told .before .before)) ∙ told .enum-told .given .1)
     (letters-act (u .m) (u .q) (u .word .now) (u .element .now) (made .act-letters .ensures) (made .before .parameters-of .ensures))
