@@ -6,17 +6,18 @@ use mathlib.Core.List.{List}
 use Prim.Native.Nat.{ℕ, _≤_, _<_}
 use native.Mathlib.Omega.{arith}
 use lib.ListN.{length}
-use Rattle.lists.specs.Lists.{same, less}
+use Rattle.lists.specs.Lists.{less}
 use Rattle.lists.proofs.Test.{less-false, SameView, is, isnt, same?, LessView, lt, ge, less?, same-yes, same-no, less-yes, less-no}
 use Rattle.refusals.specs.declared.Refusal.{Refusal}
 use Rattle.refusals.specs.declared.Refusal.the-variants.{Bytes, Ending}
 use Rattle.refusals.specs.declared.Verdict.the-variants.{Accepted, Refused}
 use Rattle.refusals.proofs.Verdicts.{accepts-unless}
+use Rattle.sheet_format.specs.Format.{decode, header}
 use Rattle.sheet_format.specs.declared.Command.{Command}
 use Rattle.sheet_format.specs.declared.Command.the-variants.{End}
+use Rattle.sheet_format.specs.declared.Decoded.the-variants.{Found}
 use Rattle.sheet_format.proofs.Offsets.{found-within}
-use Rattle.sheet.specs.Check.{isEnd, checkSheet}
-use Rattle.sheet.specs.Table.{Good}
+use Rattle.sheet.specs.Check.{isEnd, inRange, checkSheet}
 use Rattle.sheet.proofs.CheckFrom.{checkFrom, from-start, stands}
 use Rattle.sheet.proofs.Cases.{Kind, nothing, unknown, short, disordered, outside, end, on, kind?, order-fails, range-fails, good-on, good-end}
 
@@ -28,11 +29,11 @@ refused e = let z : _≡_ {A = ℕ} 0 1 = cc in omega arith
 pub record Next (s : List ℕ) (at : ℕ) : Type 0 where
   pub command : Command
   pub after : ℕ
-  pub good : Good s at command after
+  pub stands : decode s at ≡ Found command after
+  pub range : inRange (header s .rank) command ≡ true
   pub rest : ((isEnd command ≡ true) × (after ≡ length s)) ⊎ ((isEnd command ≡ false) × (checkFrom s after ≡ Accepted))
 
 pub accepted-next : (s : List ℕ) (at : ℕ) → checkFrom s at ≡ Accepted → Next s at
-unfolding isEnd same
 accepted-next s at a = go (kind? s at)
   where
     go : Kind s at → Next s at
@@ -44,8 +45,8 @@ accepted-next s at a = go (kind? s at)
     go (end after g) =
         let past = less-false after (length s) (accepts-unless (less after (length s)) (Ending after) (sym (good-end s at g) ∙ a)) in
         let w = found-within s at (g .stands) in
-        record { command = End; after = after; good = g; rest = inl (refl, omega arith) }
-    go (on c after g e) = record { command = c; after = after; good = g; rest = inr (e, sym (good-on s at g e) ∙ a) }
+        record { command = End; after = after; stands = g .stands; range = g .range; rest = inl (refl, omega arith) }
+    go (on c after g e) = record { command = c; after = after; stands = g .stands; range = g .range; rest = inr (e, sym (good-on s at g e) ∙ a) }
 
 -- ---- a whole sheet
 

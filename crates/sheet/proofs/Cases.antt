@@ -7,13 +7,13 @@ use mathlib.Core.Bool.{Bool, true, false}
 use mathlib.Core.List.{List}
 use Prim.Native.Nat.{ℕ}
 use lib.ListN.{length}
-use Rattle.lists.specs.Lists.{same, less}
+use Rattle.lists.specs.Lists.{less}
 use Rattle.refusals.specs.Refusals.{unless}
 use Rattle.refusals.specs.declared.Refusal.the-variants.{Order, Range, Ending}
 use Rattle.refusals.specs.declared.Verdict.the-variants.{Refused}
-use Rattle.sheet_format.specs.Format.{decode, rank}
+use Rattle.sheet_format.specs.Format.{decode, header}
 use Rattle.sheet_format.specs.declared.Command.{Command}
-use Rattle.sheet_format.specs.declared.Command.the-variants.{End, Begin, Unit, Set, Letter, Product, Sum, Scale, Show, Pair, Equal}
+use Rattle.sheet_format.specs.declared.Command.the-variants.{End, Begin, Change, Show}
 use Rattle.sheet_format.specs.declared.Decoded.{Decoded}
 use Rattle.sheet_format.specs.declared.Decoded.the-variants.{Found, NoCommand, Short, Nothing}
 use Rattle.sheet.specs.Check.{isEnd, inOrder, inRange}
@@ -34,7 +34,7 @@ unfolding judgedCommand
 good-on s at g e = stands s at (g .stands) ∙ rw (g .order, g .range, e) refl
 
 pub good-end : {after : ℕ} (s : List ℕ) (at : ℕ) → Good s at End after → checkFrom s at ≡ unless (less after (length s)) (Ending after)
-unfolding judgedCommand isEnd same
+unfolding judgedCommand
 good-end s at g = stands s at (g .stands) ∙ rw (g .order, g .range) refl
 
 pub data Kind (s : List ℕ) (at : ℕ) : Type 0 where
@@ -47,29 +47,21 @@ pub data Kind (s : List ℕ) (at : ℕ) : Type 0 where
   on : (c : Command) (after : ℕ) → Good s at c after → isEnd c ≡ false → Kind s at
 
 good-kind : (c : Command) (s : List ℕ) (at after : ℕ) → Good s at c after → Kind s at
-unfolding isEnd same
 good-kind End s at after g = end after g
-good-kind (Begin m q) s at after g = on _ after g refl
-good-kind (Unit r) s at after g = on _ after g refl
-good-kind (Set r i v) s at after g = on _ after g refl
-good-kind (Letter r i) s at after g = on _ after g refl
-good-kind (Product d a b) s at after g = on _ after g refl
-good-kind (Sum d a b) s at after g = on _ after g refl
-good-kind (Scale r v) s at after g = on _ after g refl
-good-kind (Show r) s at after g = on _ after g refl
-good-kind (Pair a b) s at after g = on _ after g refl
-good-kind (Equal a b) s at after g = on _ after g refl
+good-kind (Begin h) s at after g = on _ after g refl
+good-kind (Change u) s at after g = on _ after g refl
+good-kind (Show w) s at after g = on _ after g refl
 
 pub kind? : (s : List ℕ) (at : ℕ) → Kind s at
 kind? s at = go (decode s at) refl
   where
-    command : {c : Command} {after : ℕ} → decode s at ≡ Found c after → (o r : Bool) → inOrder at c ≡ o → inRange (rank s) c ≡ r → Kind s at
+    command : {c : Command} {after : ℕ} → decode s at ≡ Found c after → (o r : Bool) → inOrder at c ≡ o → inRange (header s .rank) c ≡ r → Kind s at
     command {c} {after} d false r e f = disordered (record { link = record { command = c; after = after }; stands = d; order = e })
     command {c} {after} d true false e f = outside (record { link = record { command = c; after = after }; stands = d; order = e; range = f })
     command {c} {after} d true true e f = good-kind c s at after (record { stands = d; order = e; range = f })
 
     go : (d : Decoded) → decode s at ≡ d → Kind s at
-    go (Found c after) e = command e (inOrder at c) (inRange (rank s) c) refl refl
+    go (Found c after) e = command e (inOrder at c) (inRange (header s .rank) c) refl refl
     go NoCommand e = unknown e
     go Short e = short e
     go Nothing e = nothing e

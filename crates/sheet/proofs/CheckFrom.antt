@@ -13,7 +13,7 @@ use Rattle.refusals.specs.Refusals.{_then_, unless}
 use Rattle.refusals.specs.declared.Refusal.the-variants.{Order, Range, Ending}
 use Rattle.refusals.specs.declared.Verdict.{Verdict}
 use Rattle.refusals.specs.declared.Verdict.the-variants.{Refused}
-use Rattle.sheet_format.specs.Format.{decode, rank}
+use Rattle.sheet_format.specs.Format.{decode, header}
 use Rattle.sheet_format.specs.declared.Decoded.{Decoded}
 use Rattle.sheet_format.specs.declared.Decoded.the-variants.{Found, NoCommand, Short, Nothing}
 use Rattle.sheet_format.proofs.Offsets.{found-within, past-end}
@@ -45,23 +45,23 @@ settle s at after rest true true false l h = h
 settle s at after rest true true true true h = refl
 settle s at after rest true true true false h = refl
 
-pub check-step : (s : List ℕ) (at : ℕ) → checkFrom s at ≡ follow s (judged (length s) (rank s) at (decode s at))
+pub check-step : (s : List ℕ) (at : ℕ) → checkFrom s at ≡ follow s (judged (length s) (header s .rank) at (decode s at))
 unfolding placedFrom firstRefusal judgedCommand
 check-step s at = go (decode s at) refl
   where
     left : ℕ
     left = length s - at
 
-    go : (d : Decoded) → decode s at ≡ d → (judge s at d then firstRefusal s (following d (placedFrom left s))) ≡ follow s (judged (length s) (rank s) at d)
+    go : (d : Decoded) → decode s at ≡ d → (judge s at d then firstRefusal s (following d (placedFrom left s))) ≡ follow s (judged (length s) (header s .rank) at d)
     go NoCommand e = refl
     go Short e = refl
     go Nothing e = refl
     go (Found c after) e = let w = found-within s at e in
-        settle s at after (placedFrom left s after) (inOrder at c) (inRange (rank s) c) (isEnd c) (less after (length s))
+        settle s at after (placedFrom left s after) (inOrder at c) (inRange (header s .rank) c) (isEnd c) (less after (length s))
         (ap (firstRefusal s) (placed-enough left (suc (length s - after)) s after (omega arith) (omega arith)))
 
-pub stands : {d : Decoded} (s : List ℕ) (at : ℕ) → decode s at ≡ d → checkFrom s at ≡ follow s (judged (length s) (rank s) at d)
-stands s at e = check-step s at ∙ ap (λ d. follow s (judged (length s) (rank s) at d)) e
+pub stands : {d : Decoded} (s : List ℕ) (at : ℕ) → decode s at ≡ d → checkFrom s at ≡ follow s (judged (length s) (header s .rank) at d)
+stands s at e = check-step s at ∙ ap (λ d. follow s (judged (length s) (header s .rank) at d)) e
 
 pub from-end : (s : List ℕ) (at : ℕ) → length s ≤ at → checkFrom s at ≡ Refused (Ending at)
 from-end s at h = stands s at (past-end s at h)

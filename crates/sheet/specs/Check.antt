@@ -1,19 +1,22 @@
 -- The check of a whole sheet, with the refusals 9 to 14 (document 01, "Where each thing is checked").
 --
---   codeOf c, isEnd c             the code of a command; the test for the end command
+--   isEnd c, isBegin c            the tests for the end command and for a begin command
 --   inOrder at c                  the first command is begin, and no later one
 --   isRegister r                  r is one of the four registers
---   operandsInRange m c           the operands are in range in a sheet of rank m; that of begin is m itself
+--   updateInRange m u, queryInRange w   the operands are in range in a sheet of rank m
+--   operandsInRange m c           the same of any command; the rank that begin names is m itself
 --   inRange m c                   m is the rank of a sheet, from 0 to 5, and the operands are in range
 --   Placed                        an offset, with what stands there
 --   following found rest          what follows a command that is not the end; rest gives what stands from an offset on
 --   placedFrom n s at             what stands in the sheet s from an offset on, up to the first end command or to what is no command, n at most
 --   placed s                      the same of a whole sheet; a command has a byte or more, so that n is no limit
+--   commandOf found               the command that stands at an offset, if one does
+--   commands ps                   the commands among what stands in a sheet
 --   judge s at found              10 to 14: on what stands at an offset
 --   firstRefusal s ps             the first refusal by rising offset
 --   checkSheet s                  the whole check
-use mathlib.Core.Bool.{Bool, true, cond, not, _&&_, _||_}
-use mathlib.Core.List.{List, [], _∷_}
+use mathlib.Core.Bool.{Bool, true, false, cond, not, _&&_, _||_}
+use mathlib.Core.List.{List, [], _∷_, _++_}
 use Prim.Native.Nat.{ℕ, zero, suc}
 use lib.ListN.{length}
 use Rattle.lists.specs.Lists.{same, less}
@@ -22,48 +25,54 @@ use Rattle.refusals.specs.Refusals.{_then_, unless}
 use Rattle.refusals.specs.declared.Refusal.the-variants.{Bytes, Unknown, CutOff, Order, Range, Ending}
 use Rattle.refusals.specs.declared.Verdict.{Verdict}
 use Rattle.refusals.specs.declared.Verdict.the-variants.{Accepted, Refused}
-use Rattle.sheet_format.specs.Format.{decode, rank}
+use Rattle.sheet_format.specs.Format.{decode, header}
+use Rattle.sheet_format.specs.declared.Update.{Update}
+use Rattle.sheet_format.specs.declared.Update.the-variants.{Unit, Set, Letter, Product, Sum, Scale}
+use Rattle.sheet_format.specs.declared.Query.{Query}
+use Rattle.sheet_format.specs.declared.Query.the-variants.{Register, Pairing, Equality}
 use Rattle.sheet_format.specs.declared.Command.{Command}
-use Rattle.sheet_format.specs.declared.Command.the-variants.{End, Begin, Unit, Set, Letter, Product, Sum, Scale, Show, Pair, Equal}
+use Rattle.sheet_format.specs.declared.Command.the-variants.{End, Begin, Change, Show}
 use Rattle.sheet_format.specs.declared.Decoded.{Decoded}
 use Rattle.sheet_format.specs.declared.Decoded.the-variants.{Found, NoCommand, Short, Nothing}
 
 -- ---- a command
 
-abbrev pub codeOf : Command → ℕ
-codeOf End = 0x00
-codeOf (Begin m q) = 0x10
-codeOf (Unit r) = 0x20
-codeOf (Set r i v) = 0x21
-codeOf (Letter r i) = 0x30
-codeOf (Product d a b) = 0x31
-codeOf (Sum d a b) = 0x32
-codeOf (Scale r v) = 0x33
-codeOf (Show r) = 0x40
-codeOf (Pair a b) = 0x41
-codeOf (Equal a b) = 0x42
+abbrev pub isEnd : Command → Bool
+isEnd End = true
+isEnd (Begin h) = false
+isEnd (Change u) = false
+isEnd (Show w) = false
 
-unfoldable pub isEnd : Command → Bool
-isEnd c = same (codeOf c) 0x00
+abbrev pub isBegin : Command → Bool
+isBegin End = false
+isBegin (Begin h) = true
+isBegin (Change u) = false
+isBegin (Show w) = false
 
 unfoldable pub inOrder : ℕ → Command → Bool
-inOrder at c = let begins = same (codeOf c) 0x10 in cond (same at 0) begins (not begins)
+inOrder at c = cond (same at 0) (isBegin c) (not (isBegin c))
 
 unfoldable pub isRegister : ℕ → Bool
 isRegister r = less r 4
 
+unfoldable pub updateInRange : ℕ → Update → Bool
+updateInRange m (Unit r) = isRegister r
+updateInRange m (Set r i v) = isRegister r && less i (factorial (suc m))
+updateInRange m (Letter r i) = isRegister r && not (same i 0 || less m i)
+updateInRange m (Product d a b) = isRegister d && isRegister a && isRegister b
+updateInRange m (Sum d a b) = isRegister d && isRegister a && isRegister b
+updateInRange m (Scale r v) = isRegister r
+
+unfoldable pub queryInRange : Query → Bool
+queryInRange (Register r) = isRegister r
+queryInRange (Pairing a b) = isRegister a && isRegister b
+queryInRange (Equality a b) = isRegister a && isRegister b
+
 unfoldable pub operandsInRange : ℕ → Command → Bool
 operandsInRange m End = true
-operandsInRange m (Begin n q) = same n m
-operandsInRange m (Unit r) = isRegister r
-operandsInRange m (Set r i v) = isRegister r && less i (factorial (suc m))
-operandsInRange m (Letter r i) = isRegister r && not (same i 0 || less m i)
-operandsInRange m (Product d a b) = isRegister d && isRegister a && isRegister b
-operandsInRange m (Sum d a b) = isRegister d && isRegister a && isRegister b
-operandsInRange m (Scale r v) = isRegister r
-operandsInRange m (Show r) = isRegister r
-operandsInRange m (Pair a b) = isRegister a && isRegister b
-operandsInRange m (Equal a b) = isRegister a && isRegister b
+operandsInRange m (Begin h) = same (h .rank) m
+operandsInRange m (Change u) = updateInRange m u
+operandsInRange m (Show w) = queryInRange w
 
 unfoldable pub inRange : ℕ → Command → Bool
 inRange m c = not (less 5 m) && operandsInRange m c
@@ -87,12 +96,22 @@ placedFrom (suc n) s at = record { offset = at; found = decode s at } ∷ follow
 unfoldable pub placed : List ℕ → List Placed
 placed s = placedFrom (suc (length s)) s 0
 
+abbrev pub commandOf : Decoded → List Command
+commandOf (Found c next) = c ∷ []
+commandOf NoCommand = []
+commandOf Short = []
+commandOf Nothing = []
+
+unfoldable pub commands : List Placed → List Command
+commands [] = []
+commands (p ∷ ps) = commandOf (p .found) ++ commands ps
+
 abbrev pub judge : List ℕ → ℕ → Decoded → Verdict
 judge s at NoCommand = Refused (Unknown at)
 judge s at Short = Refused (CutOff at)
 judge s at (Found c after) =
     unless (not (inOrder at c)) (Order at)
-    then unless (not (inRange (rank s) c)) (Range at)
+    then unless (not (inRange (header s .rank) c)) (Range at)
     then unless (isEnd c && less after (length s)) (Ending after)
 judge s at Nothing = Refused (Ending at)
 

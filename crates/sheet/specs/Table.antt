@@ -21,7 +21,7 @@ use Rattle.refusals.specs.Refusals.{verdictReport, Refuses}
 use Rattle.refusals.specs.declared.Refusal.{Refusal}
 use Rattle.refusals.specs.declared.Refusal.the-variants.{Rank, Size, Scratch, Word, Letter, Length, Image, Entry, Buffer, Bytes, Unknown, CutOff, Order, Range, Ending}
 use Rattle.refusals.specs.declared.Verdict.the-variants.{Accepted, Refused}
-use Rattle.sheet_format.specs.Format.{decode, rank}
+use Rattle.sheet_format.specs.Format.{decode, header}
 use Rattle.sheet_format.specs.declared.Command.{Command}
 use Rattle.sheet_format.specs.declared.Command.the-variants.{End}
 use Rattle.sheet_format.specs.declared.Decoded.the-variants.{Found, NoCommand, Short}
@@ -30,7 +30,7 @@ use Rattle.sheet.specs.Check.{isEnd, inOrder, inRange, checkSheet}
 pub record Good (s : List ℕ) (at : ℕ) (c : Command) (after : ℕ) : Type 0 where
   pub stands : decode s at ≡ Found c after
   pub order : inOrder at c ≡ true
-  pub range : inRange (rank s) c ≡ true
+  pub range : inRange (header s .rank) c ≡ true
 
 pub record Link : Type 0 where
   pub command : Command
@@ -55,7 +55,7 @@ pub record OutOfRange (s : List ℕ) (at : ℕ) : Type 0 where
   pub link : Link
   pub stands : decode s at ≡ Found (link .command) (link .after)
   pub order : inOrder at (link .command) ≡ true
-  pub range : inRange (rank s) (link .command) ≡ false
+  pub range : inRange (header s .rank) (link .command) ≡ false
 
 pub record Ended (s : List ℕ) (after : ℕ) : Type 0 where
   pub at : ℕ

@@ -4,13 +4,15 @@ ghost use mathlib.Core.Path.{_≡_};
 ghost use mathlib.Core.Bool.{not, _&&_, _||_};
 ghost use Prim.Native.Nat.{_≤_};
 ghost use Rattle.lists.specs.Lists.{same, less};
-ghost use Rattle.sheet_format.specs.Format.{rank};
-ghost use Rattle.sheet.specs.Check.{codeOf, isEnd, inOrder, isRegister, operandsInRange, placed, firstRefusal};
+ghost use Rattle.sheet_format.specs.Format.{header};
+ghost use Rattle.sheet.specs.Check.{isEnd, isBegin, inOrder, isRegister, updateInRange, queryInRange, operandsInRange, placed, firstRefusal};
 ghost use Rattle.sheet.specs.Steps.{judgedCommand, judged};
 use refusals::Refusal;
 use refusals::Verdict;
 use sheet_format::Command;
 use sheet_format::Decoded;
+use sheet_format::Query;
+use sheet_format::Update;
 
 fn three_registers(d: usize, a: usize, b: usize) -> bool
     ensures { λ r. ⌜ r ≡ (isRegister d && isRegister a && isRegister b) ⌝ }
@@ -30,6 +32,30 @@ fn is_letter(m: usize, i: u8) -> bool
     i != 0 && i as usize <= m
 }
 
+fn update_in_range(m: usize, update: Update) -> bool
+    requires { ⌜ m ≤ 5 ⌝ }
+    ensures { λ r. ⌜ r ≡ updateInRange m update ⌝ }
+{
+    match update {
+        Update::Unit(r) => r < 4,
+        Update::Set(r, i, _) => r < 4 && i < ranks::size(m),
+        Update::Letter(r, i) => r < 4 && is_letter(m, i),
+        Update::Product(d, a, b) => three_registers(d, a, b),
+        Update::Sum(d, a, b) => three_registers(d, a, b),
+        Update::Scale(r, _) => r < 4,
+    }
+}
+
+fn query_in_range(query: Query) -> bool
+    ensures { λ r. ⌜ r ≡ queryInRange query ⌝ }
+{
+    match query {
+        Query::Register(r) => r < 4,
+        Query::Pairing(a, b) => two_registers(a, b),
+        Query::Equality(a, b) => two_registers(a, b),
+    }
+}
+
 // Whether the operands are in range in a sheet of rank m.
 pub(crate) fn operands_in_range(m: usize, command: Command) -> bool
     requires { ⌜ m ≤ 5 ⌝ }
@@ -37,48 +63,39 @@ pub(crate) fn operands_in_range(m: usize, command: Command) -> bool
 {
     match command {
         Command::End => true,
-        Command::Begin(rank, _) => rank == m,
-        Command::Unit(r) => r < 4,
-        Command::Set(r, i, _) => r < 4 && i < ranks::size(m),
-        Command::Letter(r, i) => r < 4 && is_letter(m, i),
-        Command::Product(d, a, b) => three_registers(d, a, b),
-        Command::Sum(d, a, b) => three_registers(d, a, b),
-        Command::Scale(r, _) => r < 4,
-        Command::Show(r) => r < 4,
-        Command::Pair(a, b) => two_registers(a, b),
-        Command::Equal(a, b) => two_registers(a, b),
-    }
-}
-
-fn code_of(command: Command) -> u8
-    ensures { λ r. ⌜ r ≡ codeOf command ⌝ }
-{
-    match command {
-        Command::End => 0x00,
-        Command::Begin(_, _) => 0x10,
-        Command::Unit(_) => 0x20,
-        Command::Set(_, _, _) => 0x21,
-        Command::Letter(_, _) => 0x30,
-        Command::Product(_, _, _) => 0x31,
-        Command::Sum(_, _, _) => 0x32,
-        Command::Scale(_, _) => 0x33,
-        Command::Show(_) => 0x40,
-        Command::Pair(_, _) => 0x41,
-        Command::Equal(_, _) => 0x42,
+        Command::Begin(header) => header.rank == m,
+        Command::Change(update) => update_in_range(m, update),
+        Command::Show(query) => query_in_range(query),
     }
 }
 
 fn is_end(command: Command) -> bool
     ensures { λ r. ⌜ r ≡ isEnd command ⌝ }
 {
-    code_of(command) == 0x00
+    match command {
+        Command::End => true,
+        Command::Begin(_) => false,
+        Command::Change(_) => false,
+        Command::Show(_) => false,
+    }
+}
+
+fn is_begin(command: Command) -> bool
+    ensures { λ r. ⌜ r ≡ isBegin command ⌝ }
+{
+    match command {
+        Command::End => false,
+        Command::Begin(_) => true,
+        Command::Change(_) => false,
+        Command::Show(_) => false,
+    }
 }
 
 // Whether the first command is begin, or a later one is not.
 fn in_order(at: usize, command: Command) -> bool
     ensures { λ r. ⌜ r ≡ inOrder at command ⌝ }
 {
-    let begins = code_of(command) == 0x10;
+    let begins = is_begin(command);
     if at == 0 {
         return begins;
     }
@@ -124,7 +141,7 @@ fn judge(n: usize, m: usize, at: usize, found: Decoded) -> Judged
 
 // The first refusal of the commands of a sheet of rank m.
 pub(crate) fn commands(sheet: &[u8], m: usize) -> Verdict
-    requires { ⌜ m ≡ rank (now sheet) ⌝ }
+    requires { ⌜ m ≡ header (now sheet) .rank ⌝ }
     ensures { λ r. ⌜ r ≡ firstRefusal (now (sheet .entry)) (placed (now (sheet .entry))) ⌝ }
 {
     let n = sheet.len();

@@ -33,5 +33,6 @@ pub fn check(sheet: &[u8]) -> Verdict
     if 4096 < n {
         return Verdict::Refused(Refusal::Bytes);
     }
-    checks::commands(sheet, sheet_format::rank(sheet))
+    let header = sheet_format::header_of(sheet);
+    checks::commands(sheet, header.rank)
 }

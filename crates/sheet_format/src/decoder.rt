@@ -1,59 +1,51 @@
 // What stands at an offset of a sheet.
 
 ghost use mathlib.Core.Path.{_≡_};
-ghost use Rattle.sheet_format.specs.Format.{known, width, command, decode};
+ghost use Rattle.sheet_format.specs.Format.{row, decode};
 use crate::Command;
 use crate::Decoded;
+use crate::Header;
+use crate::Query;
+use crate::Update;
 use crate::operands::byte;
 use crate::operands::number;
 
-// How many bytes the operands take.
-fn width(code: u8) -> usize
-    ensures { λ r. ⌜ r ≡ width code ⌝ }
-{
-    match code {
-        0x10 => 9,
-        0x20 => 1,
-        0x21 => 11,
-        0x30 => 2,
-        0x31 => 3,
-        0x32 => 3,
-        0x33 => 9,
-        0x40 => 1,
-        0x41 => 2,
-        0x42 => 2,
-        _ => 0,
-    }
+// What a code means: a command, with how many bytes its operands take, or none.
+pub(crate) enum Row {
+    Known(Command, usize),
+    Unknown,
 }
 
-fn known(code: u8) -> bool
-    ensures { λ r. ⌜ r ≡ known code ⌝ }
-{
-    if code == 0x00 {
-        return true;
-    }
-    0 < width(code)
-}
-
-// The command, with the operands at the front of x.
-fn command(code: u8, x: &[u8]) -> Command
-    ensures { λ r. ⌜ r ≡ command code (now (x .entry)) ⌝ }
+// The row of a code, with the operands at the front of x.
+fn row_of(code: u8, x: &[u8]) -> Row
+    ensures { λ r. ⌜ r ≡ row code (now (x .entry)) ⌝ }
 {
     let first = byte(x, 0) as usize;
-    let second = byte(x, 1);
+    let letter = byte(x, 1);
+    let second = letter as usize;
     let third = byte(x, 2) as usize;
     match code {
-        0x10 => Command::Begin(first, number(x, 1, 8)),
-        0x20 => Command::Unit(first),
-        0x21 => Command::Set(first, number(x, 1, 2) as usize, number(x, 3, 8)),
-        0x30 => Command::Letter(first, second),
-        0x31 => Command::Product(first, second as usize, third),
-        0x32 => Command::Sum(first, second as usize, third),
-        0x33 => Command::Scale(first, number(x, 1, 8)),
-        0x40 => Command::Show(first),
-        0x41 => Command::Pair(first, second as usize),
-        0x42 => Command::Equal(first, second as usize),
-        _ => Command::End,
+        0x00 => Row::Known(Command::End, 0),
+        0x10 => Row::Known(
+            Command::Begin(Header {
+                rank: first,
+                q: number(x, 1, 8),
+            }),
+            9,
+        ),
+        0x20 => Row::Known(Command::Change(Update::Unit(first)), 1),
+        0x21 => Row::Known(
+            Command::Change(Update::Set(first, number(x, 1, 2) as usize, number(x, 3, 8))),
+            11,
+        ),
+        0x30 => Row::Known(Command::Change(Update::Letter(first, letter)), 2),
+        0x31 => Row::Known(Command::Change(Update::Product(first, second, third)), 3),
+        0x32 => Row::Known(Command::Change(Update::Sum(first, second, third)), 3),
+        0x33 => Row::Known(Command::Change(Update::Scale(first, number(x, 1, 8))), 9),
+        0x40 => Row::Known(Command::Show(Query::Register(first)), 1),
+        0x41 => Row::Known(Command::Show(Query::Pairing(first, second)), 2),
+        0x42 => Row::Known(Command::Show(Query::Equality(first, second)), 2),
+        _ => Row::Unknown,
     }
 }
 
@@ -67,14 +59,13 @@ pub fn decode(sheet: &[u8], at: usize) -> Decoded
         return Decoded::Nothing;
     }
     let code = sheet[at];
-    if !known(code) {
+    let after = at + 1;
+    let row = row_of(code, &sheet[after..]);
+    let Row::Known(command, wide) = row else {
         return Decoded::NoCommand;
-    }
-    let wide = width(code);
-    let left = n - at - 1;
-    if left < wide {
+    };
+    if n - after < wide {
         return Decoded::Short;
     }
-    let after = at + 1;
-    Decoded::Found(command(code, &sheet[after..]), after + wide)
+    Decoded::Found(command, after + wide)
 }

@@ -1,19 +1,23 @@
 // The format of run sheets: the commands that stand in the bytes of a sheet, and the reader.
 
 ghost use mathlib.Core.Path.{_≡_};
-ghost use Rattle.sheet_format.specs.Format.{decode, rank, parameter};
+ghost use Rattle.sheet_format.specs.Format.{decode, begun, header};
 
 mod decoder;
 mod operands;
 
 pub use decoder::decode;
 
-// A command with its operands.
-pub enum Command {
-    // The last command.
-    End,
-    // Begin a sheet of rank m with the word q.
-    Begin(usize, u64),
+// What the begin command says of a sheet.
+pub struct Header {
+    // The rank m of every element.
+    pub rank: usize,
+    // The word q.
+    pub q: u64,
+}
+
+// A command that changes a register.
+pub enum Update {
     // A register becomes the unit.
     Unit(usize),
     // In a register, the coefficient of an index becomes a word.
@@ -26,12 +30,28 @@ pub enum Command {
     Sum(usize, usize, usize),
     // A register times a word.
     Scale(usize, u64),
-    // Show a register.
-    Show(usize),
-    // Show the pairing of two registers.
-    Pair(usize, usize),
-    // Show whether two registers have equal words.
-    Equal(usize, usize),
+}
+
+// What a command shows.
+pub enum Query {
+    // A register.
+    Register(usize),
+    // The pairing of two registers.
+    Pairing(usize, usize),
+    // Whether two registers have equal words.
+    Equality(usize, usize),
+}
+
+// A command with its operands.
+pub enum Command {
+    // The last command.
+    End,
+    // The first command: all registers become zero.
+    Begin(Header),
+    // A register changes.
+    Change(Update),
+    // Something is shown, and nothing changes.
+    Show(Query),
 }
 
 // What stands at an offset of a sheet.
@@ -87,18 +107,30 @@ pub fn read(sheet: &[u8], at: usize) -> Decoded
     next(reader_at(sheet, at))
 }
 
-// The operand m of a sheet that begins with 0x10.
-// Example: 0x10 0x02 and eight bytes for q begin a sheet of rank 2.
-pub fn rank(sheet: &[u8]) -> usize
-    ensures { λ r. ⌜ r ≡ rank (now (sheet .entry)) ⌝ }
+const NONE: Header = Header { rank: 0, q: 0 };
+
+// What a command says of its sheet.
+fn begun(command: Command) -> Header
+    ensures { λ r. ⌜ r ≡ begun command ⌝ }
 {
-    operands::byte(sheet, 1) as usize
+    match command {
+        Command::End => NONE,
+        Command::Begin(header) => header,
+        Command::Change(_) => NONE,
+        Command::Show(_) => NONE,
+    }
 }
 
-// The operand q of a sheet that begins with 0x10.
-// Example: 0x10 0x02 0x03 and seven zero bytes begin a sheet with q = 3.
-pub fn parameter(sheet: &[u8]) -> u64
-    ensures { λ r. ⌜ r ≡ parameter (now (sheet .entry)) ⌝ }
+// What the sheet's begin command says; zeros where the sheet begins with none.
+// Example: 0x10 0x02 0x03 and seven zero bytes begin a sheet of rank 2 with q = 3.
+pub fn header_of(sheet: &[u8]) -> Header
+    ensures { λ r. ⌜ r ≡ header (now (sheet .entry)) ⌝ }
 {
-    operands::number(sheet, 2, 8)
+    let first = decoder::decode(sheet, 0);
+    match first {
+        Decoded::Found(command, _) => begun(command),
+        Decoded::NoCommand => NONE,
+        Decoded::Short => NONE,
+        Decoded::Nothing => NONE,
+    }
 }

@@ -6,7 +6,7 @@ use borrow.Author.Needs.{needs}
 use lib.ListN.{length}
 use Rattle.refusals.specs.declared.Refusal.the-variants.{Ending}
 use Rattle.refusals.specs.declared.Verdict.the-variants.{Refused}
-use Rattle.sheet_format.specs.Format.{decode, rank}
+use Rattle.sheet_format.specs.Format.{decode, header}
 use Rattle.sheet.specs.Check.{placed, firstRefusal}
 use Rattle.sheet.specs.Steps.{judged}
 use Rattle.sheet.proofs.CheckFrom.{checkFrom, follow, from-start, from-end, check-step, on-within}
@@ -39,7 +39,7 @@ loop-holds : tie.Need-loop-holds Inv-loop μ-loop
 loop-holds c = (omega arith, from-start _)
 
 told : (c : tie.After-judge Inv-loop μ-loop) → let s = start (head c) .args .sheet .now in let at = head c .loop .at in
-    c .judge .result ≡ judged (length s) (rank s) at (decode s at)
+    c .judge .result ≡ judged (length s) (header s .rank) at (decode s at)
 told c = let u = start (head c) in
     c .judge .ensures ∙ (λ j. judged (length (u .args .sheet .now)) (u .pre j) (head c .loop .at) (c .before .read .ensures j))
 

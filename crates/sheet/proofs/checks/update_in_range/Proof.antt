@@ -1,0 +1,56 @@
+-- Each arm is the definition's line for its update.
+use mathlib.Core.Path.{refl, ap, _∙_}
+use native.Mathlib.Omega.{arith}
+use borrow.Author.Needs.{needs}
+use Rattle.lists.specs.Lists.{less}
+use Rattle.lists.proofs.Test.{less-yes, less-no}
+use Rattle.ranks.proofs.Sizes.{size-is}
+use Rattle.sheet.specs.Check.{isRegister, updateInRange}
+use Rattle.sheet.proofs.Tests.{and-on, and-off}
+use Rattle.sheet.proofs.checks.update_in_range.Statement.{statement}
+use Rattle.sheet.proofs.checks.update_in_range.Tie as tie
+
+-- where the register of a set is found, and the beginning
+abbrev start : tie.After-update2 → tie.Start
+start c = c .before .before
+
+unit : tie.Need-returns
+unfolding updateInRange isRegister less
+unit c = rw (c .before .update .given .1) refl
+
+set : tie.Need-returns-2
+unfolding updateInRange isRegister less
+set c = let k = c .before .before .before in
+    rw (k .update2 .given .1)
+    (ap (less _) (c .size .ensures ∙ size-is (start k .args .m) (omega arith)) ∙ and-on _ (less-yes (c .before .if1 .taken)))
+
+set-not : tie.Need-returns-3
+unfolding updateInRange isRegister less
+set-not c = rw (c .before .before .update2 .given .1) (and-off _ (less-no (c .if1 .left)))
+
+letter : tie.Need-returns-4
+unfolding updateInRange isRegister
+letter c = rw (c .before .before .before .update3 .given .1) (c .is-letter .ensures ∙ and-on _ (less-yes (c .before .if2 .taken)))
+
+letter-not : tie.Need-returns-5
+unfolding updateInRange isRegister less
+letter-not c = rw (c .before .before .update3 .given .1) (and-off _ (less-no (c .if2 .left)))
+
+product : tie.Need-returns-6
+unfolding updateInRange
+product c = rw (c .before .before .update4 .given .1) (c .three-registers .ensures)
+
+sum : tie.Need-returns-7
+unfolding updateInRange
+sum c = rw (c .before .before .update5 .given .1) (c .three-registers2 .ensures)
+
+scale : tie.Need-returns-8
+unfolding updateInRange isRegister less
+scale c = rw (c .before .update6 .given .1) refl
+
+pub update-in-range-spec : {M : Type 1} → statement M
+update-in-range-spec =
+    tie.close
+    (tie.spec (λ c. search needs) (λ c. search needs) (λ c κs. search needs) (λ c. search needs) (λ c κs. search needs) (λ c. search needs)
+    (λ c κs. search needs) (λ c. search needs) (λ c κs. search needs) (λ c. search needs)
+    unit set set-not letter letter-not product sum scale)
