@@ -1,47 +1,61 @@
--- The call of a run on lent registers: what its checks find, and what it leaves. Rests on refusals' Ended and lists' Test.
+-- The tests of a turn, and what its step answers. Rests on lists' Test.
 use mathlib.Core.Path.{_≡_, refl, sym, ap, _∙_}
-use mathlib.Core.Logic.{_≢_}
+use mathlib.Core.Bool.{Bool, true, false, _&&_, and-eq-true-iff}
 use mathlib.Core.List.{List}
-use Prim.Native.Nat.{ℕ}
-use lib.ListN.{length, replicate, length-replicate}
-use Rattle.lists.proofs.Test.{same-yes, same-no}
-use Rattle.refusals.specs.Refusals.{accepted, refused, ended}
-use Rattle.refusals.specs.declared.Refusal.{Refusal}
-use Rattle.refusals.specs.declared.Refusal.the-variants.{Buffer}
-use Rattle.refusals.specs.declared.Verdict.{Verdict}
-use Rattle.refusals.specs.declared.Verdict.the-variants.{Accepted, Refused}
-use Rattle.refusals.specs.declared.Answer.{Answer}
-use Rattle.refusals.proofs.Ended.{ended-refused, ended-done}
-use Rattle.sheet_format.specs.Format.{rank, parameter}
-use Rattle.sheet.specs.Check.{placed, checkSheet}
-use Rattle.runner.specs.Run.{obeyAll, commands, ran, given, runSheet, runVerdict, runCall}
+use Prim.Native.Nat.{ℕ, _+_, _-_, _^_, _≤_, _<_}
+use native.Mathlib.Omega.{arith}
+use lib.ListN.{length}
+use Rattle.lists.specs.Lists.{same}
+use Rattle.lists.proofs.Test.{less-yes, less-no}
+use Rattle.sheet_format.specs.declared.Header.{Header}
+use Rattle.sheet_format.specs.declared.Command.{Command}
+use Rattle.sheet_format.specs.declared.Decoded.the-variants.{Found}
+use Rattle.sheet.specs.Check.{inRange}
+use Rattle.machine.specs.Step.{cost, costCall, stepCall}
+use Rattle.machine.specs.declared.Stepped.{Stepped}
+use Rattle.machine.specs.declared.Stepped.the-variants.{Obeyed, NotObeyed}
+use Rattle.runner.specs.Turn.{fits, obeys, onward, turnOf}
+use Rattle.runner.specs.declared.Cursor.{Cursor}
+use Rattle.runner.specs.declared.Turned.the-variants as T
 
-module _ (s x : List ℕ) {a : Answer} where
-  pub sheet-refused : {why : Refusal} → checkSheet s ≡ Refused why → a ≡ refused why → runCall s x ≡ record { answer = a; lent = x }
-  unfolding runCall runVerdict
-  sheet-refused e f = ended-refused refused _ _ _ (rw e refl) f
+module _ (h : Header) (k : Cursor) (c : Command) (after : ℕ) (x : List ℕ) {n : ℕ} (n-is : n ≡ costCall (h .rank) c) where
+  -- the command is in range, and the registers have their size
+  abbrev good : Bool
+  good = inRange (h .rank) c && same (length x) 2880
 
-  pub registers-refused : checkSheet s ≡ Accepted → length x ≢ 2880 → a ≡ refused Buffer → runCall s x ≡ record { answer = a; lent = x }
-  unfolding runCall runVerdict
-  registers-refused e n f = ended-refused refused _ _ _ (rw (e, same-no n) refl) f
+  counts : good ≡ true → n ≡ cost (h .rank) c
+  unfolding costCall
+  counts e = n-is ∙ rw (and-eq-true-iff (inRange (h .rank) c) (same (length x) 2880) .0 e .0) refl
 
-  -- the registers were cleared to y, and are now z
-  pub run-done : {n : ℕ} {y z : List ℕ} → checkSheet s ≡ Accepted → length x ≡ 2880 → y ≡ replicate (length x) 0
-      → obeyAll (rank s) (parameter s) (commands (placed s)) (record { contents = y; count = 0 }) ≡ record { contents = z; count = n } → a ≡ accepted n
-      → runCall s x ≡ record { answer = a; lent = z }
-  unfolding runCall runVerdict
-  run-done e four zeros done f =
-      let cleared = zeros ∙ ap (λ n. replicate n 0) four in
-      let m = ap (λ w. obeyAll (rank s) (parameter s) (commands (placed s)) (record { contents = w; count = 0 })) (sym cleared) ∙ done in
-      ended-done refused x (rw (e, same-yes four) refl) (f ∙ ap (λ o. accepted (o .count)) (sym m)) (ap (λ o. o .contents) (sym m))
+  not-good : good ≡ false → turnOf h k (Found c after) x ≡ record { answer = T.NotObeyed; lent = x }
+  unfolding obeys
+  not-good e = rw e refl
 
--- the call on registers of zeros
-pub run-given : (s : List ℕ) {a : Answer} {y : List ℕ} → runCall s (replicate 2880 0) ≡ record { answer = a; lent = y }
-    → given (a .verdict) (record { contents = y; count = a .count }) ≡ runSheet s
-unfolding runCall runVerdict runSheet ended
-run-given s e = ap (λ o. given (o .answer .verdict) (record { contents = o .lent; count = o .answer .count })) (sym e) ∙ go (checkSheet s) refl
-  where
-    go : (v : Verdict) → checkSheet s ≡ v → let o = runCall s (replicate 2880 0) in
-        given (o .answer .verdict) (record { contents = o .lent; count = o .answer .count }) ≡ given (checkSheet s) (ran (checkSheet s) s)
-    go Accepted e = rw (e, same-yes (length-replicate {A = ℕ} 2880 0)) refl
-    go (Refused why) e = rw e refl
+  pub turn-unfit : 2 ^ 64 - 1 - k .count < n → turnOf h k (Found c after) x ≡ record { answer = T.NotObeyed; lent = x }
+  unfolding obeys fits
+  turn-unfit l = go good refl
+    where
+      go : (b : Bool) → good ≡ b → turnOf h k (Found c after) x ≡ record { answer = T.NotObeyed; lent = x }
+      go false e = not-good e
+      go true e = rw (e, less-no {x = k .count + cost (h .rank) c} {a = 2 ^ 64} (omega (arith, counts e))) refl
+
+  -- the step answered a and left y
+  module _ {a : Stepped} {y : List ℕ} (step : stepCall h c x ≡ record { answer = a; lent = y }) where
+    pub turn-unobeyed : a ≡ NotObeyed → turnOf h k (Found c after) x ≡ record { answer = T.NotObeyed; lent = y }
+    unfolding stepCall
+    turn-unobeyed f = go good refl
+      where
+        go : (b : Bool) → good ≡ b → turnOf h k (Found c after) x ≡ record { answer = T.NotObeyed; lent = y }
+        go false e = not-good e ∙ ap (λ o. record { answer = T.NotObeyed; lent = o .lent }) (rw e at step)
+        go true e = let g = ap (λ o. o .answer) (rw e at step) ∙ f in let z : _≡_ {A = ℕ} 0 1 = cc in absurd (omega arith)
+
+    pub turn-obeyed : {m : ℕ} → a ≡ Obeyed m → n ≤ 2 ^ 64 - 1 - k .count → k .count < 2 ^ 64
+        → turnOf h k (Found c after) x ≡ record { answer = onward c (record { at = after; count = k .count + n }); lent = y }
+    unfolding stepCall obeys fits
+    turn-obeyed {m} f l word = go good refl
+      where
+        go : (b : Bool) → good ≡ b → turnOf h k (Found c after) x ≡ record { answer = onward c (record { at = after; count = k .count + n }); lent = y }
+        go true e =
+            rw (e, less-yes {x = k .count + cost (h .rank) c} {a = 2 ^ 64} (omega (arith, counts e)))
+            (λ i. record { answer = onward c (record { at = after; count = k .count + sym (counts e) i }); lent = ap (λ o. o .lent) (rw e at step) i })
+        go false e = let g = ap (λ o. o .answer) (rw e at step) ∙ f in let z : _≡_ {A = ℕ} 0 1 = cc in absurd (omega arith)

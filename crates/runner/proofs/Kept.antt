@@ -1,35 +1,27 @@
--- Commands in range keep the size of the registers, and the zeros past M in each. Rests on machine's Put and sheet's InRange.
+-- Commands in range keep the zeros past M in each register. Rests on Puts.
 --
 --   Kept M x   four registers of 720 words, each of them zero past the first M
-use mathlib.Core.Path.{_≡_, refl, sym, ap, _∙_}
+use mathlib.Core.Path.{_≡_, ap, _∙_}
 use mathlib.Core.Logic.{_⊎_, inl, inr}
 use mathlib.Core.Bool.{true}
 use mathlib.Core.List.{List, [], _∷_, _++_}
 use Prim.Native.Nat.{ℕ, suc, _+_, _*_, _-_, _≤_, _<_}
 use native.Mathlib.Omega.{arith}
-use lib.ListN.{length, getD, take, drop, length-set, length-replicate, List·getD-append, getD-replicate, replicate}
+use lib.ListN.{length, getD, take, drop, length-replicate, List·getD-append, getD-replicate, replicate}
 use lib.Seq.{length-take-le, getD-append-add, getD-take, getD-drop}
-use Rattle.ring.specs.Modular.{words}
 use Rattle.lists.specs.Lists.{All}
 use Rattle.lists.specs.Numbers.{factorial}
 use Rattle.lists.specs.Overwrite.{overwrite}
 use Rattle.lists.proofs.Test.{LessView, lt, ge, less?}
 use Rattle.lists.proofs.Overwrite.{overwrite-size}
-use Rattle.perms.specs.Permutation.{identity}
-use Rattle.algebra.specs.Element.{unit}
-use Rattle.algebra.proofs.Lists.{plus-length, scale-length}
-use Rattle.algebra.proofs.Coefficients.{basis-length}
-use Rattle.algebra.proofs.CoefficientActions.{act-length, times-length}
-use Rattle.element_calls.specs.Coefficients.{ring, parametersOf}
 use Rattle.ranks.proofs.Sizes.{sheet-size-small}
+use Rattle.sheet_format.specs.declared.Header.{Header}
 use Rattle.sheet_format.specs.declared.Command.{Command}
-use Rattle.sheet_format.specs.declared.Command.the-variants as K
 use Rattle.sheet.specs.Check.{inRange}
-use Rattle.sheet.proofs.InRange.{Within, low, within}
-use Rattle.machine.specs.Registers.{element, put, zeros}
-use Rattle.machine.specs.Step.{obey}
-use Rattle.machine.proofs.Put.{element-size}
+use Rattle.sheet.proofs.InRange.{low}
+use Rattle.machine.specs.Registers.{put}
 use Rattle.runner.specs.Run.{State, after, obeyAll}
+use Rattle.runner.proofs.Puts.{puts-obey}
 
 pub record Kept (M : ℕ) (x : List ℕ) : Type 0 where
   pub four : length x ≡ 2880
@@ -58,8 +50,8 @@ getD-put r h x i fits (inr l) =
     ∙ ap (λ i. getD x i 0) f
 
 module _ {M : ℕ} (small : M ≤ 720) where
-  kept-put : {x : List ℕ} (r : ℕ) (h : List ℕ) → r < 4 → length h ≡ M → Kept M x → Kept M (put r h x)
-  kept-put {x} r h four size k = record {
+  kept-put : (x : List ℕ) (r : ℕ) (h : List ℕ) → r < 4 → length h ≡ M → Kept M x → Kept M (put r h x)
+  kept-put x r h four size k = record {
     four = overwrite-size (720 * r) h x (omega arith) ∙ k .four;
     past = λ a i b l t. getD-put r h x (720 * a + i) (omega arith) (apart a i l t) ∙ k .past a i b l t;
   }
@@ -71,39 +63,13 @@ module _ {M : ℕ} (small : M ≤ 720) where
           go (lt h e) = inl (omega arith)
           go (ge h e) = inr (omega arith)
 
-module _ (m q : ℕ) where
-  kept-obey : (c : Command) (x : List ℕ) → m ≤ 5 → Within m c → Kept (factorial (suc m)) x → Kept (factorial (suc m)) (obey m q c x)
-  unfolding obey zeros unit
-  kept-obey c x rank = go c
-    where
-      M : ℕ
-      M = factorial (suc m)
+module _ (h : Header) where
+  abbrev M : ℕ
+  M = factorial (suc (h .rank))
 
-      putting : {y : List ℕ} (r : ℕ) (h : List ℕ) → r < 4 → length h ≡ M → Kept M y → Kept M (put r h y)
-      putting = kept-put (sheet-size-small m rank)
-
-      -- the element of register r
-      sized : (r : ℕ) → r < 4 → Kept M x → length (element m r x) ≡ M
-      sized r four k = element-size {size = M} (record { low = rank; whole = refl; four = k .four }) four
-
-      go : (c : Command) → Within m c → Kept M x → Kept M (obey m q c x)
-      go K.End w k = k
-      go (K.Begin n p) w k = let e = length-replicate {A = ℕ} M 0 in
-          putting 3 _ (omega arith) e (putting 2 _ (omega arith) e (putting 1 _ (omega arith) e (putting 0 _ (omega arith) e k)))
-      go (K.Unit r) w k = putting r _ w (basis-length ℕ words m (identity m)) k
-      go (K.Set r i v) w k = putting r _ (w .0) (length-set (element m r x) i v ∙ sized r (w .0) k) k
-      go (K.Letter r i) w k = putting r _ (w .0) (act-length ℕ (ring (parametersOf q)) q (parametersOf q .r) m (i ∷ []) (element m r x) (sized r (w .0) k)) k
-      go (K.Product d a b) w k =
-          putting d _ (w .0) (times-length ℕ (ring (parametersOf q)) q (parametersOf q .r) m m (element m a x) (element m b x) (sized a (w .1) k)) k
-      go (K.Sum d a b) w k = let e = sized a (w .1) k in
-          putting d _ (w .0) (plus-length ℕ words (element m a x) (element m b x) (e ∙ sym (sized b (w .2) k)) ∙ e) k
-      go (K.Scale r v) w k = putting r _ w (scale-length ℕ words v (element m r x) ∙ sized r w k) k
-      go (K.Show r) w k = k
-      go (K.Pair a b) w k = k
-      go (K.Equal a b) w k = k
-
-  pub kept-all : (cs : List Command) (x : State) → All (λ c. inRange m c ≡ true) cs → Kept (factorial (suc m)) (x .contents)
-      → Kept (factorial (suc m)) (obeyAll m q cs x .contents)
+  pub kept-all : (cs : List Command) (x : State) → All (λ c. inRange (h .rank) c ≡ true) cs → Kept M (x .contents) → Kept M (obeyAll h cs x .contents)
   unfolding obeyAll
   kept-all [] x a k = k
-  kept-all (c ∷ cs) x a k = kept-all cs (after m q c x) (a .1) (kept-obey c (x .contents) (low m c (a .0)) (within m c (a .0) refl) k)
+  kept-all (c ∷ cs) x a k =
+      kept-all cs (after h c x) (a .1)
+      (puts-obey h c (a .0) (Kept M) (λ y k. k .four) (kept-put (sheet-size-small (h .rank) (low (h .rank) c (a .0)))) (x .contents) k)

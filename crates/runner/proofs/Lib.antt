@@ -1,6 +1,10 @@
-mod Kept
+-- how a run begins, and one turn
+mod Beginning
 pub mod Ahead
-pub mod Due
-pub mod Running
+mod Puts
 mod Called
-pub mod Runs
+pub mod Turning
+-- the whole run
+pub mod Running
+mod Ran
+mod Kept

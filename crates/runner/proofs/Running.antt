@@ -1,69 +1,65 @@
--- The loop that obeys the commands of an accepted sheet: what it holds at an offset. Rests on Due and Ahead.
+-- Turns, one after another, obey the commands of an accepted sheet, one after another. Rests on Turning and Ahead.
 --
---   Running m q s old at count x   from the registers old, the sheet s of rank m with the word q is obeyed up to an offset; the registers are now x
+--   Running s h old k x   the run of the sheet s with the header h began on the registers old, and comes to the cursor k with the registers x
 use mathlib.Core.Path.{_≡_, refl, sym, ap, _∙_}
-use mathlib.Core.List.{List}
-use Prim.Native.Nat.{ℕ, _+_, _*_, _≤_, _<_}
+use mathlib.Core.List.{List, [], _∷_}
+use Prim.Native.Nat.{ℕ, zero, suc, _-_, _<_}
 use native.Mathlib.Omega.{arith}
 use lib.ListN.{length}
-use Rattle.refusals.specs.declared.Verdict.the-variants.{Accepted}
-use Rattle.sheet_format.specs.Format.{decode, rank, parameter}
-use Rattle.sheet_format.specs.declared.Command.{Command}
-use Rattle.sheet_format.specs.declared.Decoded.the-variants.{Found}
-use Rattle.sheet.specs.Check.{placed, checkSheet}
-use Rattle.sheet.proofs.Accepted.{Next, accepted-start, accepted-next}
-use Rattle.machine.specs.Step.{stepCall}
-use Rattle.machine.specs.declared.Stepped.{Stepped}
-use Rattle.machine.specs.declared.Stepped.the-variants.{Obeyed}
-use Rattle.runner.specs.Run.{obeyAll, commands}
-use Rattle.runner.proofs.Ahead.{ahead, Reaches, ahead-start, ahead-end, reaches-start}
-use Rattle.runner.proofs.Due.{Due, due-standing, due-on, due-left, due-count, due-few}
+use Rattle.sheet_format.specs.declared.Header.{Header}
+use Rattle.sheet.specs.Check.{placed, commands}
+use Rattle.runner.specs.Run.{State, obeyAll}
+use Rattle.runner.specs.Turn.{beginCall, turnCall, ahead}
+use Rattle.runner.specs.declared.Cursor.{Cursor}
+use Rattle.runner.specs.declared.Begun.the-variants.{Ready}
+use Rattle.runner.specs.declared.Turned.{Turned}
+use Rattle.runner.specs.declared.Turned.the-variants.{On}
+use Rattle.runner.proofs.Ahead.{ahead-start}
+use Rattle.runner.proofs.Beginning.{begun-ready}
+use Rattle.runner.proofs.Turning.{state, Along, Goes, Ends, along-first, turn-goes, turn-ends}
 
-pub record Running (m q : ℕ) (s old : List ℕ) (at count : ℕ) (x : List ℕ) : Type 0 where
-  pub rank-is : m ≡ rank s
-  pub word-is : q ≡ parameter s
-  pub short : length s ≤ 4096
-  pub reaches : Reaches s at
-  pub four : length x ≡ 2880
-  pub few : count ≤ 2027640 * at
-  pub same : obeyAll m q (ahead s at) (record { contents = x; count = count }) ≡ obeyAll m q (commands (placed s)) (record { contents = old; count = 0 })
+module _ {s : List ℕ} {h : Header} {k : Cursor} {x : List ℕ} where
+  -- what is left to obey at a cursor, and at the next one
+  goes-obeys : {to : Cursor} {y : List ℕ} → Goes s h k x to y → obeyAll h (ahead s (k .at)) (state k x) ≡ obeyAll h (ahead s (to .at)) (state to y)
+  unfolding obeyAll
+  goes-obeys {to} g = ap (λ cs. obeyAll h cs (state k x)) (g .ahead-is) ∙ ap (obeyAll h (ahead s (to .at))) (g .made)
 
-module _ {m q : ℕ} {s : List ℕ} where
-  pub running-none : (x : List ℕ) → m ≡ rank s → q ≡ parameter s → checkSheet s ≡ Accepted → length x ≡ 2880 → Running m q s x 0 0 x
-  running-none x e f a four = record {
-    rank-is = e;
-    word-is = f;
-    short = accepted-start s a .1;
-    reaches = reaches-start s a;
-    four = four;
-    few = omega arith;
-    same = ap (λ cs. obeyAll m q cs (record { contents = x; count = 0 })) (ahead-start s);
+  ends-obeys : {y : List ℕ} → Ends s h k x y → obeyAll h (ahead s (k .at)) (state k x) ≡ state k y
+  unfolding obeyAll
+  ends-obeys e = ap (λ cs. obeyAll h cs (state k x)) (e .ahead-is) ∙ e .made
+
+pub record Running (s : List ℕ) (h : Header) (old : List ℕ) (k : Cursor) (x : List ℕ) : Type 0 where
+  pub along : Along s h k x
+  pub left : obeyAll h (ahead s (k .at)) (state k x) ≡ obeyAll h (commands (placed s)) (record { contents = old; count = 0 })
+
+module _ {s : List ℕ} {h : Header} where
+  pub running-none : {k : Cursor} (x : List ℕ) → beginCall s ≡ Ready h k → length x ≡ 2880 → Running s h x k x
+  running-none {k} x e four = let f = begun-ready s e .first-is in record {
+    along = along-first e four;
+    left = (λ i. obeyAll h (ahead s (sym f i .at)) (state (sym f i) x)) ∙ ap (λ cs. obeyAll h cs (record { contents = x; count = 0 })) (ahead-start s);
   }
 
-  module _ {old x : List ℕ} {at count : ℕ} (r : Running m q s old at count x) where
-    pub running-all : length s ≤ at
-        → obeyAll (rank s) (parameter s) (commands (placed s)) (record { contents = old; count = 0 }) ≡ record { contents = x; count = count }
-    unfolding obeyAll
-    running-all h = rw (sym (r .rank-is), sym (r .word-is)) (sym (r .same) ∙ rw (ahead-end s at h) refl)
+  module _ {old x : List ℕ} {k : Cursor} (r : Running s h old k x) where
+    pub running-more : {to : Cursor} {y : List ℕ} → turnCall s h k x ≡ record { answer = On to; lent = y } → (k .at < to .at) × Running s h old to y
+    running-more e = let g = turn-goes (r .along) e in (g .on, record { along = g .along; left = sym (goes-obeys g) ∙ r .left })
 
-    -- a command stands there
-    pub running-next : at < length s → Next s at
-    running-next l = accepted-next s at (r .reaches .accepted l)
+    pub running-all : {o : Turned} {y : List ℕ} → turnCall s h k x ≡ record { answer = o; lent = y } → ((to : Cursor) → o ≡ On to → ⊥)
+        → obeyAll h (commands (placed s)) (record { contents = old; count = 0 }) ≡ record { contents = y; count = k .count }
+    running-all e stays = sym (r .left) ∙ ends-obeys (turn-ends (r .along) e stays)
 
-    pub running-due : {c : Command} {after : ℕ} → at < length s → decode s at ≡ Found c after → Due m q s at c after
-    running-due l d = record { rank-is = r .rank-is; word-is = r .word-is; reaches = r .reaches; inside = l; stands = d }
+-- ---- the turns of a run, up to its end
 
-    -- the step obeyed the command, answered n and left y
-    pub running-more : {c : Command} {after n : ℕ} {a : Stepped} {y : List ℕ} → Due m q s at c after → stepCall m q c x ≡ record { answer = a; lent = y }
-        → a ≡ Obeyed n → length y ≡ length x → Running m q s old after (count + n) y
-    unfolding obeyAll
-    running-more {after = after} {n = n} d e f k = record {
-      rank-is = r .rank-is;
-      word-is = r .word-is;
-      short = r .short;
-      reaches = due-standing d .reaches;
-      four = k ∙ r .four;
-      few = omega (arith, r .few, due-few d x (r .four) e f, due-on d);
-      same = (λ i. obeyAll m q (ahead s after) (record { contents = due-left d x (r .four) e i; count = count + due-count d x (r .four) e f i }))
-          ∙ sym (ap (λ cs. obeyAll m q cs (record { contents = x; count = count })) (due-standing d .first)) ∙ r .same;
-    }
+turns-from : (n : ℕ) {s : List ℕ} {h : Header} {k : Cursor} {x : List ℕ} → length s - k .at ≤ n → Along s h k x
+    → let o = turns n s h k x in record { contents = o .lent; count = o .answer .count } ≡ obeyAll h (ahead s (k .at)) (state k x)
+unfolding turns
+turns-from zero l a = absurd (omega (arith, along-within a))
+turns-from (suc n) {s} {h} {k} {x} l a = go (turnCall s h k x) refl
+  where
+    -- the turn gave o
+    go : (o : Outcome Turned (List ℕ)) → turnCall s h k x ≡ o
+        → let f = goesOn o k (turns n s h) in record { contents = f .lent; count = f .answer .count } ≡ obeyAll h (ahead s (k .at)) (state k x)
+    go o e = ?
+
+pub turns-obey : (s : List ℕ) → checkSheet s ≡ Accepted → (x : List ℕ) → length x ≡ 2880 → let o = turns (length s) s (header s) first x in
+    record { contents = o .lent; count = o .answer .count } ≡ obeyAll (header s) (commands (placed s)) (record { contents = x; count = 0 })
+turns-obey s a x four = turns-from (length s) (omega arith) (along-first (begun s a) four) ∙ ap (λ cs. obeyAll (header s) cs (record { contents = x; count = 0 })) (ahead-start s)

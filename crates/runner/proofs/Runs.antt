@@ -1,4 +1,4 @@
--- What holds of the run of every sheet: the record `Runs`. Rests on Kept, Ahead, sheet's Table and refusals' Ended.
+-- What holds of the run of every sheet: the record `Runs`. Rests on Kept, Ahead, Running, sheet's Table and refusals' Ended.
 use mathlib.Core.Path.{_≡_, refl, sym, ap, _∙_}
 use mathlib.Core.Bool.{not}
 use mathlib.Core.List.{List}
@@ -15,13 +15,14 @@ use Rattle.refusals.specs.declared.Refusal.the-variants.{Buffer}
 use Rattle.refusals.proofs.Verdicts.{Near, near-then, near-unless}
 use Rattle.refusals.proofs.Ended.{ended-keeps}
 use Rattle.ranks.proofs.Sizes.{size-is}
-use Rattle.sheet_format.specs.Format.{rank, parameter}
-use Rattle.sheet.specs.Check.{placed, checkSheet}
+use Rattle.sheet_format.specs.Format.{header}
+use Rattle.sheet.specs.Check.{placed, commands, checkSheet}
 use Rattle.sheet.proofs.Table.{exactly}
 use Rattle.machine.specs.Registers.{register}
-use Rattle.runner.specs.Run.{start, commands, obeyed, ran, given, runSheet, finishedReport, runVerdict, runCall}
+use Rattle.runner.specs.Run.{start, obeyed, ran, given, runSheet, finishedReport, runVerdict, runCall}
 use Rattle.runner.specs.Runs.{M, Runs}
 use Rattle.runner.proofs.Ahead.{rank-low, all-in-range}
+use Rattle.runner.proofs.Running.{turns-obey}
 use Rattle.runner.proofs.Kept.{Kept, kept-zeros, kept-all}
 
 module _ {M : ℕ} {x : List ℕ} (k : Kept M x) (r : ℕ) (four : r < 4) where
@@ -43,8 +44,8 @@ module _ {M : ℕ} {x : List ℕ} (k : Kept M x) (r : ℕ) (four : r < 4) where
 kept : (s : List ℕ) (v : Verdict) → checkSheet s ≡ v → Kept (M s) (ran v s .contents)
 kept s (Refused why) e = kept-zeros (M s)
 kept s Accepted e = let low = rank-low s e in
-    rw (less-no {x = 5} {a = rank s} low, size-is (rank s) (omega arith))
-    (kept-all (rank s) (parameter s) (commands (placed s)) start (all-in-range s e) (kept-zeros _))
+    rw (less-no {x = 5} {a = header s .rank} low, size-is (header s .rank) (omega arith))
+    (kept-all (header s) (commands (placed s)) start (all-in-range s e) (kept-zeros _))
 
 keeps : (s x : List ℕ) → Keeps (answerReport (runCall s x .answer)) x (runCall s x .lent)
 unfolding runCall runVerdict
@@ -65,5 +66,6 @@ runs s = let k = kept s (checkSheet s) refl in record {
   report = reports s (checkSheet s) refl (exactly s .report .near);
   refused = λ why e. rw e refl;
   obeyed = all-in-range s;
+  folds = turns-obey s;
   lent = keeps s;
 }

@@ -2,10 +2,8 @@
 --
 --   State                 the words of the registers and the count
 --   start                 zero elements, and the count 0
---   after m q c x         the state after a command
---   obeyAll m q cs x      the state after the commands cs, one after another
---   commandOf found       the command that stands at an offset, if one does
---   commands ps           the commands among what stands in a sheet
+--   after h c x           the state after a command, in a sheet with the header h
+--   obeyAll h cs x        the state after the commands cs, one after another
 --   obeyed s              the state after all commands of the sheet s
 --   ran v s               the state after the sheet s with the verdict v
 --   given v x             the verdict and the state as they are given back
@@ -14,7 +12,7 @@
 --   runVerdict s x        9 to 14: on the sheet; then 8: on lent registers x, which are to be 4 × 720 words
 --   runCall s x           the run of a sheet on lent registers
 use mathlib.Core.Bool.{not}
-use mathlib.Core.List.{List, [], _∷_, _++_}
+use mathlib.Core.List.{List, [], _∷_}
 use Prim.Native.Nat.{ℕ, _+_}
 use lib.ListN.{length, replicate}
 use Rattle.lists.specs.Lists.{same}
@@ -23,11 +21,10 @@ use Rattle.refusals.specs.declared.Refusal.the-variants.{Buffer}
 use Rattle.refusals.specs.declared.Verdict.{Verdict}
 use Rattle.refusals.specs.declared.Verdict.the-variants.{Accepted, Refused}
 use Rattle.refusals.specs.declared.Answer.{Answer}
-use Rattle.sheet_format.specs.Format.{rank, parameter}
+use Rattle.sheet_format.specs.Format.{header}
+use Rattle.sheet_format.specs.declared.Header.{Header}
 use Rattle.sheet_format.specs.declared.Command.{Command}
-use Rattle.sheet_format.specs.declared.Decoded.{Decoded}
-use Rattle.sheet_format.specs.declared.Decoded.the-variants.{Found, NoCommand, Short, Nothing}
-use Rattle.sheet.specs.Check.{Placed, placed, checkSheet}
+use Rattle.sheet.specs.Check.{placed, commands, checkSheet}
 use Rattle.machine.specs.Registers.{register}
 use Rattle.machine.specs.Step.{obey, cost}
 use Rattle.runner.specs.declared.Finished.{Finished}
@@ -39,25 +36,15 @@ pub record State : Type 0 where
 abbrev pub start : State
 start = record { contents = replicate 2880 0; count = 0 }
 
-abbrev pub after : ℕ → ℕ → Command → State → State
-after m q c x = record { contents = obey m q c (x .contents); count = x .count + cost m c }
+abbrev pub after : Header → Command → State → State
+after h c x = record { contents = obey h c (x .contents); count = x .count + cost (h .rank) c }
 
-unfoldable pub obeyAll : ℕ → ℕ → List Command → State → State
-obeyAll m q [] x = x
-obeyAll m q (c ∷ cs) x = obeyAll m q cs (after m q c x)
-
-abbrev pub commandOf : Decoded → List Command
-commandOf (Found c next) = c ∷ []
-commandOf NoCommand = []
-commandOf Short = []
-commandOf Nothing = []
-
-unfoldable pub commands : List Placed → List Command
-commands [] = []
-commands (p ∷ ps) = commandOf (p .found) ++ commands ps
+unfoldable pub obeyAll : Header → List Command → State → State
+obeyAll h [] x = x
+obeyAll h (c ∷ cs) x = obeyAll h cs (after h c x)
 
 abbrev pub obeyed : List ℕ → State
-obeyed s = obeyAll (rank s) (parameter s) (commands (placed s)) start
+obeyed s = obeyAll (header s) (commands (placed s)) start
 
 abbrev pub ran : Verdict → List ℕ → State
 ran Accepted s = obeyed s

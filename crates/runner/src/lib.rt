@@ -3,15 +3,45 @@
 ghost use mathlib.Core.Path.{_≡_};
 ghost use Prim.Native.Nat.{_<_};
 ghost use lib.ListN.{length};
-ghost use Rattle.refusals.specs.declared.Verdict.the-variants.{Accepted};
-ghost use Rattle.sheet_format.specs.Format.{rank, parameter};
-ghost use Rattle.sheet.specs.Check.{placed, checkSheet};
+ghost use Rattle.sheet.specs.Check.{placed, commands};
 ghost use Rattle.machine.specs.Registers.{register};
-ghost use Rattle.runner.specs.Run.{obeyAll, commands, runCall, runSheet};
-use machine::Stepped;
+ghost use Rattle.runner.specs.declared.Begun.the-variants.{Ready};
+ghost use Rattle.runner.specs.Turn.{beginCall};
+ghost use Rattle.runner.specs.Run.{obeyAll, runCall, runSheet};
 use refusals::Refusal;
 use refusals::Verdict;
-use sheet_format::Decoded;
+use sheet_format::Header;
+
+mod turns;
+
+pub use turns::begin;
+pub use turns::turn;
+
+// Where a run stands.
+pub struct Cursor {
+    // The offset of the next command.
+    pub at: usize,
+    // The ring operations of the commands before it.
+    pub count: u64,
+}
+
+// How a run begins.
+pub enum Begun {
+    // With the sheet's header, at its first command.
+    Ready(Header, Cursor),
+    // Not at all: the sheet is refused.
+    Failed(Refusal),
+}
+
+// What a turn answers.
+pub enum Turned {
+    // The command is obeyed, and the next one stands at the cursor.
+    On(Cursor),
+    // The end command is obeyed; it counts nothing.
+    Ended,
+    // Nothing is done: no command that can be obeyed stands at the cursor.
+    NotObeyed,
+}
 
 // What the run of a sheet gives back: the registers, the ring operations of all commands, and how the run ended.
 pub struct Finished {
@@ -23,30 +53,32 @@ pub struct Finished {
     pub ending: Verdict,
 }
 
-// The commands of a sheet that passes its check, on registers of 4 x 720 words. The answer is their count.
-fn obey_all(x: &mut [u64], sheet: &[u8]) -> u64
-    requires { ⌜ (length (now x) ≡ 2880) × (checkSheet (now sheet) ≡ Accepted) ⌝ }
-    ensures { λ n. ⌜ obeyAll (rank (now (sheet .entry))) (parameter (now (sheet .entry))) (commands (placed (now (sheet .entry))))
-        (record { contents = now (x .entry); count = 0 })
+// The commands of a sheet from its first cursor on, on registers of 4 x 720 words. The answer is their count.
+fn obey_all(sheet: &[u8], x: &mut [u64], header: Header, first: Cursor) -> u64
+    requires { ⌜ (length (now x) ≡ 2880) × (beginCall (now sheet) ≡ Ready header first) ⌝ }
+    ensures { λ n. ⌜ obeyAll header (commands (placed (now (sheet .entry)))) (record { contents = now (x .entry); count = 0 })
         ≡ record { contents = now (x .exit); count = n } ⌝ }
 {
-    let m = sheet_format::rank(sheet);
-    let q = sheet_format::parameter(sheet);
-    let mut at = 0;
-    let mut count = 0;
-    while at < sheet.len() {
-        let found = sheet_format::read(sheet, at);
-        let Decoded::Found(command, after) = found else {
-            return count;
+    let mut cursor = first;
+    loop {
+        let turned = turn(sheet, x, header, cursor);
+        let Turned::On(next) = turned else {
+            return cursor.count;
         };
-        let obeyed = machine::step(m, q, command, x);
-        let Stepped::Obeyed(n) = obeyed else {
-            return count;
-        };
-        count += n;
-        at = after;
+        cursor = next;
     }
-    count
+}
+
+// The run of a sheet that has begun.
+fn run_on(sheet: &[u8], x: &mut [u64], header: Header, first: Cursor) -> refusals::Answer
+    requires { ⌜ beginCall (now sheet) ≡ Ready header first ⌝ }
+    ensures { λ a. ⌜ runCall (now (sheet .entry)) (now (x .entry)) ≡ record { answer = a; lent = now (x .exit) } ⌝ }
+{
+    if x.len() != 2880 {
+        return refusals::refused(Refusal::Buffer);
+    }
+    word_lists::clear(x);
+    refusals::accepted(obey_all(sheet, x, header, first))
 }
 
 // The run of a sheet on lent registers of 4 x 720 words, register r from 720 r on, whatever they held: the element of rank m
@@ -56,15 +88,11 @@ fn obey_all(x: &mut [u64], sheet: &[u8]) -> u64
 pub fn run_into(sheet: &[u8], x: &mut [u64]) -> refusals::Answer
     ensures { λ a. ⌜ runCall (now (sheet .entry)) (now (x .entry)) ≡ record { answer = a; lent = now (x .exit) } ⌝ }
 {
-    let checked = sheet::check(sheet);
-    if let Verdict::Refused(why) = checked {
-        return refusals::refused(why);
+    let begun = begin(sheet);
+    match begun {
+        Begun::Failed(why) => refusals::refused(why),
+        Begun::Ready(header, first) => run_on(sheet, x, header, first),
     }
-    if x.len() != 2880 {
-        return refusals::refused(Refusal::Buffer);
-    }
-    word_lists::clear(x);
-    refusals::accepted(obey_all(x, sheet))
 }
 
 // A register's 720 words.

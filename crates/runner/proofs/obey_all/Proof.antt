@@ -1,87 +1,60 @@
--- The loop's invariant: the sheet is obeyed up to `at`, where a command stands that the step obeys, so that the loop does not end early. Rests on
--- Running and Due.
-use mathlib.Core.Path.{sym, ap, _∙_}
+-- The loop's invariant: the run comes to the cursor. Rests on Running and Turning.
+use mathlib.Core.Path.{_≡_, ap, _∙_}
 use mathlib.Core.Logic.{⊎-elim}
-use Prim.Native.Nat.{_-_}
+use Prim.Native.Nat.{_-_, _<_}
 use native.Mathlib.Omega.{arith}
 use borrow.Author.Needs.{needs}
 use denote.Enum.Declared.{tagOf}
 use lib.ListN.{length}
-use Rattle.sheet_format.proofs.Decoded as decoded
-use Rattle.machine.proofs.Stepped as stepped
-use Rattle.runner.proofs.Due.{Due, due-on, due-obeyed, due-few}
-use Rattle.runner.proofs.Running.{Running, running-none, running-all, running-next, running-due, running-more}
+use Rattle.runner.specs.declared.Turned.the-variants.{On}
+use Rattle.runner.specs.declared.Cursor.{Cursor}
+use Rattle.runner.proofs.Turned as turned
+use Rattle.runner.proofs.Turning.{along-within}
+use Rattle.runner.proofs.Running.{Running, running-none, running-more, running-all}
 use Rattle.runner.proofs.obey_all.Statement.{statement}
 use Rattle.runner.proofs.obey_all.Tie as tie
 
 abbrev Inv-loop : tie.InvT-loop
-Inv-loop x₀ sheet m q at₀ count₀ x at count = Running m q sheet x₀ at count x
+Inv-loop sheet x₀ header first x cursor = Running sheet header x₀ cursor x
 
 abbrev μ-loop : tie.MeasureT-loop
-μ-loop x₀ sheet m q at₀ count₀ x at count = length sheet - at
+μ-loop sheet x₀ header first x cursor = length sheet - cursor .at
 
--- ---- the way back: from the registers after a step to the step, to where its command was found, to the loop's head, to the beginning
+-- ---- places: the turn, the loop's head, and the beginning
 
-abbrev step : tie.After-slice-known2 Inv-loop μ-loop → tie.After-step Inv-loop μ-loop
-step c = c .before .before
+abbrev turn : tie.After-slice-known2 Inv-loop μ-loop → tie.After-turn Inv-loop μ-loop
+turn c = c .before .before
 
-abbrev told : tie.After-step Inv-loop μ-loop → tie.After-known-told Inv-loop μ-loop
-told c = c .before .before
-
-abbrev read : tie.After-known-told Inv-loop μ-loop → tie.After-read Inv-loop μ-loop
-read c = c .before .before .before
-
-abbrev head : tie.After-read Inv-loop μ-loop → tie.At-loop Inv-loop μ-loop
+abbrev head : tie.After-turn Inv-loop μ-loop → tie.At-loop Inv-loop μ-loop
 head c = c .before .before
-
-abbrev start : tie.After-parameter Inv-loop μ-loop → tie.Start Inv-loop μ-loop
-start c = c .before .before .before .before
 
 -- ---- the needs
 
 loop-holds : tie.Need-loop-holds Inv-loop μ-loop
-loop-holds c = running-none _ (c .before .rank .ensures) (c .parameter .ensures) (start c .pre .1) (start c .pre .0)
+loop-holds c = let start = c .before .before in running-none _ (start .pre .1) (start .pre .0)
 
--- anything but a command
-other : (c : tie.At-match-keys2 Inv-loop μ-loop) → ⊥
-other c =
-    let r = c .before in
-    let n = running-next (head r .loop .inv) (r .before .loop-test .taken) in
-    let found = ap (tagOf decoded.the-type) (r .read .ensures ∙ n .good .stands) in
-    ⊎-elim (λ e. omega arith) (⊎-elim (λ e. omega arith) (λ e. omega arith)) (c .match .keys2)
-
-due : (c : tie.After-known-told Inv-loop μ-loop) →
-    let found = c .before .found .given .0 in let at = head (read c) in let known = at .before in
-    Due (known .before .rank .result) (known .parameter .result) (start known .args .sheet .now) (at .loop .at) (found .0) (found .1 .0)
-due c = let r = read c in running-due (head r .loop .inv) (r .before .loop-test .taken) (sym (r .read .ensures) ∙ c .before .found .given .1)
-
-loop-again : tie.Need-loop-again Inv-loop μ-loop
-loop-again c = let s = step (c .before .before .before) in
-    running-more (head (read (told s)) .loop .inv) (due (told s)) (s .step .ensures) (c .before .obeyed .given .1) (s .step .kept .1 .1 .1 .0)
-
--- the command is in range, and so it is obeyed
-unobeyed : (c : tie.At-match2-keys2 Inv-loop μ-loop) → ⊥
-unobeyed c = let s = step (c .before) in let r = head (read (told s)) .loop .inv in
-    let e = ap (tagOf stepped.the-type) (due-obeyed (due (told s)) _ (r .four) (s .step .ensures)) in omega (arith, c .match2 .keys2)
-
-add-count : tie.Need-add-count Inv-loop μ-loop
-add-count c =
-    let s = step (c .before .before .before) in let d = due (told s) in let r = head (read (told s)) .loop .inv in
-    omega (arith, r .few, r .short, d .inside, due-few d _ (r .four) (s .step .ensures) (c .before .obeyed .given .1))
+-- the next cursor
+next : (c : tie.After-known-told Inv-loop μ-loop) → let t = turn (c .before .before .before) in let start = head t .before .before .before in
+    let to = c .before .turned .given .0 .0 in
+    (head t .loop .cursor .at < to .at) × Running (start .args .sheet .now) (start .args .header) (start .args .x .now) to (t .turn .last .1 .0)
+next c = let t = turn (c .before .before .before) in
+    running-more (head t .loop .inv) (t .turn .ensures ∙ ap (λ r. record { answer = r; lent = t .turn .last .1 .0 }) (c .before .turned .given .1))
 
 loop-less : tie.Need-loop-less Inv-loop μ-loop
-loop-less c = let d = due (told (step (c .before .before .before))) in omega (arith, d .inside, due-on d)
+loop-less c = let t = turn (c .before .before .before) in
+    let w = along-within (head t .loop .inv .along) in omega (arith, next c .0, w)
 
-same-length : tie.Need-same-length-3 Inv-loop μ-loop
-same-length c = c .before .loop .inv .four ∙ sym (start (c .before .before) .pre .0)
+loop-again : tie.Need-loop-again Inv-loop μ-loop
+loop-again c = next c .1
 
-returns : tie.Need-returns-3 Inv-loop μ-loop
-returns c = running-all (c .before .loop .inv) (c .loop-test .left)
+-- the turn answered no cursor
+stays : (c : tie.At-match-keys2 Inv-loop μ-loop) (to : Cursor) → turn (c .before) .turn .result ≡ On to → ⊥
+stays c to e = let on = ap (tagOf turned.the-type) e in ⊎-elim (λ t. omega arith) (λ t. omega arith) (c .match .keys2)
+
+returns : tie.Need-returns Inv-loop μ-loop
+returns c = let t = turn (c .before) in running-all (head t .loop .inv) (t .turn .ensures) (stays c)
 
 pub obey-all-spec : {M : Type 1} → statement M
 obey-all-spec =
     tie.close
-    (tie.spec Inv-loop μ-loop (λ c κs. search needs) (λ c κs. search needs) loop-holds (λ c κs. search needs) (λ c. search needs)
-    (λ c. absurd (other c)) (λ c. absurd (other c)) (λ c κs. search needs) (λ c. search needs)
-    (λ c. absurd (unobeyed c)) (λ c. absurd (unobeyed (c .before))) (λ c. absurd (unobeyed (c .before)))
-    add-count loop-less loop-again same-length returns)
+    (tie.spec Inv-loop μ-loop loop-holds (λ c κs. search needs) (λ c. search needs) (λ c. search needs) returns loop-less loop-again)

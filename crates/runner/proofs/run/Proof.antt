@@ -1,7 +1,7 @@
--- The run on registers of zeros, which are given back. Rests on Called.
+-- The run on registers of zeros, which are given back. Rests on Ran.
 use mathlib.Core.Path.{_∙_}
 use borrow.Author.Needs.{needs}
-use Rattle.runner.proofs.Called.{run-given}
+use Rattle.runner.proofs.Ran.{run-given}
 use Rattle.runner.proofs.run.Statement.{statement}
 use Rattle.runner.proofs.run.Tie as tie
 

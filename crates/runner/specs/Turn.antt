@@ -1,0 +1,83 @@
+-- One command of a sheet: where a run begins, and what a turn of it does.
+--
+--   first                 the cursor of a run that has obeyed nothing
+--   begunFor v s          how a run of the sheet s with the verdict v begins
+--   beginCall s           how a run of the sheet s begins: with its header and the first cursor, or with its refusal
+--   fits h k c            the count of the command c can be added to that of the cursor k: their sum is a word
+--   obeys h k c x         the command is obeyed on the registers x: it is in range, these are 4 × 720 words, and its count fits
+--   moved h k c next      the cursor after the command, which ends at the offset next
+--   onward c k            how a run goes on after the command, with the cursor k after it
+--   turnOf h k found x    what a turn answers and leaves, where `found` stands at the cursor; nothing is done where that is not obeyed
+--   turnCall s h k x      the same of the sheet s
+--   goesOn o k f          f from the next cursor on; the cursor k where there is none
+--   turns n s h k x       n turns, or fewer where the run ends: the last cursor, and the registers
+--   ahead s at            the commands of the sheet s from an offset on
+use mathlib.Core.Bool.{Bool, cond, _&&_}
+use mathlib.Core.List.{List}
+use Prim.Native.Nat.{ℕ, zero, suc, _+_, _-_, _^_}
+use lib.ListN.{length}
+use Rattle.lists.specs.Lists.{same, less}
+use Rattle.refusals.specs.Refusals.{Outcome}
+use Rattle.refusals.specs.declared.Verdict.{Verdict}
+use Rattle.refusals.specs.declared.Verdict.the-variants.{Accepted, Refused}
+use Rattle.sheet_format.specs.Format.{decode, header}
+use Rattle.sheet_format.specs.declared.Header.{Header}
+use Rattle.sheet_format.specs.declared.Command.{Command}
+use Rattle.sheet_format.specs.declared.Decoded.{Decoded}
+use Rattle.sheet_format.specs.declared.Decoded.the-variants.{Found, NoCommand, Short, Nothing}
+use Rattle.sheet.specs.Check.{isEnd, inRange, placedFrom, commands, checkSheet}
+use Rattle.machine.specs.Step.{obey, cost}
+use Rattle.runner.specs.declared.Cursor.{Cursor}
+use Rattle.runner.specs.declared.Begun.{Begun}
+use Rattle.runner.specs.declared.Begun.the-variants.{Ready, Failed}
+use Rattle.runner.specs.declared.Turned.{Turned}
+use Rattle.runner.specs.declared.Turned.the-variants.{On, Ended, NotObeyed}
+
+abbrev pub first : Cursor
+first = record { at = 0; count = 0 }
+
+abbrev pub begunFor : Verdict → List ℕ → Begun
+begunFor Accepted s = Ready (header s) first
+begunFor (Refused why) s = Failed why
+
+unfoldable pub beginCall : List ℕ → Begun
+beginCall s = begunFor (checkSheet s) s
+
+unfoldable pub fits : Header → Cursor → Command → Bool
+fits h k c = less (k .count + cost (h .rank) c) (2 ^ 64)
+
+unfoldable pub obeys : Header → Cursor → Command → List ℕ → Bool
+obeys h k c x = inRange (h .rank) c && same (length x) 2880 && fits h k c
+
+abbrev pub moved : Header → Cursor → Command → ℕ → Cursor
+moved h k c next = record { at = next; count = k .count + cost (h .rank) c }
+
+abbrev pub onward : Command → Cursor → Turned
+onward c k = cond (isEnd c) Ended (On k)
+
+abbrev pub turnOf : Header → Cursor → Decoded → List ℕ → Outcome Turned (List ℕ)
+turnOf h k (Found c next) x =
+    cond (obeys h k c x) (record { answer = onward c (moved h k c next); lent = obey h c x }) (record { answer = NotObeyed; lent = x })
+turnOf h k NoCommand x = record { answer = NotObeyed; lent = x }
+turnOf h k Short x = record { answer = NotObeyed; lent = x }
+turnOf h k Nothing x = record { answer = NotObeyed; lent = x }
+
+unfoldable pub turnCall : List ℕ → Header → Cursor → List ℕ → Outcome Turned (List ℕ)
+turnCall s h k x = turnOf h k (decode s (k .at)) x
+
+-- ---- one after another
+
+abbrev pub goesOn : Outcome Turned (List ℕ) → Cursor → (Cursor → List ℕ → Outcome Cursor (List ℕ)) → Outcome Cursor (List ℕ)
+goesOn o k f = continued (o .answer)
+  where
+    continued : Turned → Outcome Cursor (List ℕ)
+    continued (On next) = f next (o .lent)
+    continued Ended = record { answer = k; lent = o .lent }
+    continued NotObeyed = record { answer = k; lent = o .lent }
+
+unfoldable pub turns : ℕ → List ℕ → Header → Cursor → List ℕ → Outcome Cursor (List ℕ)
+turns zero s h k x = record { answer = k; lent = x }
+turns (suc n) s h k x = goesOn (turnCall s h k x) k (turns n s h)
+
+abbrev pub ahead : List ℕ → ℕ → List Command
+ahead s at = commands (placedFrom (suc (length s - at)) s at)
