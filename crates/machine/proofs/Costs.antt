@@ -6,24 +6,28 @@ use Rattle.lists.specs.Lists.{less, first}
 use Rattle.lists.specs.Numbers.{factorial, series}
 use Rattle.algebra.specs.Cost.{cLine, c, C}
 use Rattle.ranks.proofs.Sizes.{at-most, sheet-size-small}
+use Rattle.sheet_format.specs.declared.Update.{Update}
+use Rattle.sheet_format.specs.declared.Update.the-variants.{Unit, Set, Letter, Product, Sum, Scale}
 use Rattle.sheet_format.specs.declared.Command.{Command}
-use Rattle.sheet_format.specs.declared.Command.the-variants as K
-use Rattle.machine.specs.Step.{cost}
+use Rattle.sheet_format.specs.declared.Command.the-variants.{End, Begin, Change, Show}
+use Rattle.machine.specs.Step.{updateCost, cost}
 
 none : first (λ m. less 2027640 (C m m)) 0 6 ≡ 6
 unfolding first less factorial series cLine c C
 none = refl
 
+update-cost-small : (m : ℕ) (u : Update) → m ≤ 5 → updateCost m u ≤ 2027640
+unfolding updateCost
+update-cost-small m (Unit r) h = omega arith
+update-cost-small m (Set r i v) h = omega arith
+update-cost-small m (Letter r i) h = omega (arith, sheet-size-small m h)
+update-cost-small m (Product d a b) h = at-most (λ m. C m m) 2027640 5 none m h
+update-cost-small m (Sum d a b) h = omega (arith, sheet-size-small m h)
+update-cost-small m (Scale r v) h = omega (arith, sheet-size-small m h)
+
 pub cost-small : (m : ℕ) (c : Command) → m ≤ 5 → cost m c ≤ 2027640
 unfolding cost
-cost-small m K.End h = omega arith
-cost-small m (K.Begin n q) h = omega arith
-cost-small m (K.Unit r) h = omega arith
-cost-small m (K.Set r i v) h = omega arith
-cost-small m (K.Letter r i) h = omega (arith, sheet-size-small m h)
-cost-small m (K.Product d a b) h = at-most (λ m. C m m) 2027640 5 none m h
-cost-small m (K.Sum d a b) h = omega (arith, sheet-size-small m h)
-cost-small m (K.Scale r v) h = omega (arith, sheet-size-small m h)
-cost-small m (K.Show r) h = omega arith
-cost-small m (K.Pair a b) h = omega arith
-cost-small m (K.Equal a b) h = omega arith
+cost-small m End h = omega arith
+cost-small m (Begin b) h = omega arith
+cost-small m (Change u) h = update-cost-small m u h
+cost-small m (Show w) h = omega arith

@@ -6,8 +6,8 @@ use mathlib.Core.Path.{_≡_, sym, ap, _∙_, subst}
 use mathlib.Core.List.{List, _++_}
 use Prim.Native.Nat.{ℕ, suc, _+_, _*_, _-_, _^_, _≤_, _<_}
 use native.Mathlib.Omega.{arith}
-use lib.ListN.{length, getD, take, drop, set, length-set}
-use lib.Seq.{length-take-le, length-front, take-at, set-append-left, getD-take, getD-drop}
+use lib.ListN.{length, getD, take, drop, set, length-set, length-drop}
+use lib.Seq.{length-take-le, take-take, set-append-left, getD-take, getD-drop}
 use mir.Syntax.{w64}
 use mir.Val.{Fits}
 use borrow.Rule.Slice.PartMut.{midOf, putMid, post-is, mid-len, set-mid-at}
@@ -18,7 +18,7 @@ use Rattle.lists.proofs.Overwrite.{set-next}
 use Rattle.algebra.specs.Element.{Element}
 use Rattle.ranks.specs.Ranks.{size}
 use Rattle.ranks.proofs.Sizes.{size-is, sheet-size-small}
-use Rattle.machine.specs.Registers.{element, put}
+use Rattle.machine.specs.Registers.{register, element, put}
 use Rattle.machine.specs.Steps.{Registers}
 
 -- ---- the registers of a sheet
@@ -47,10 +47,6 @@ pub record Part (m : ℕ) (p h : List ℕ) : Type 0 where
 module _ {m size : ℕ} {x : List ℕ} (z : Registers m size x) where
   pub small : size ≤ 720
   small = omega (arith, z .whole, sheet-size-small m (z .low))
-
-  -- a list of 720 words whose first words were lent and came back
-  pub still-inside : (old last : List ℕ) → 720 ≤ length old → length last ≡ length (take (size - 0) old) → size ≤ length (last ++ drop (size - 0) old)
-  still-inside old last fits l = omega (arith, small, length-front old last (size - 0) l)
 
   module _ {r : ℕ} (four : r < 4) where
     pub inside : 720 * r + size ≤ length x
@@ -81,9 +77,9 @@ module _ {m size : ℕ} {x : List ℕ} (z : Registers m size x) where
         sym (set-mid-at (720 * r) (720 * r + size - 720 * r) i x v (omega (arith, z .whole, lent-size)))
         ∙ back (length-set (midOf (720 * r) (720 * r + size - 720 * r) x) i v) (ap (λ h. set h i v) lent-is)
 
-    -- the first words of a list are lent to load the element
-    pub load-fits : (old : List ℕ) → 720 ≤ length old → (720 * r + length (take (size - 0) old) ≤ length x) × (r < 4)
-    load-fits old fits = (omega (arith, inside, small, length-take-le (size - 0) old (omega (arith, small))), four)
+    pub register-size : {d : List ℕ} → d ≡ register r x → length d ≡ 720
+    unfolding register
+    register-size e = ap length e ∙ length-take-le 720 (drop (720 * r) x) (omega (arith, length-drop (720 * r) x, z .four))
 
     pub words-element : ((i : ℕ) → i < length x → getD x i 0 < 2 ^ 64) → Element (λ n. n < 2 ^ 64) m (element m r x)
     unfolding element
@@ -99,10 +95,11 @@ module _ {m size : ℕ} {x : List ℕ} (z : Registers m size x) where
       pub lent : Part m (midOf (720 * r) (720 * r + size - 720 * r) x) (element m r x)
       lent = record { is = lent-is; fit = words-element (λ i l. known i .fits) }
 
-      pub loaded : {last : List ℕ} (old rest : List ℕ) → 720 ≤ length old → length last ≡ length (take (size - 0) old)
-          → last ≡ take (length (take (size - 0) old)) (drop (720 * r) x) → Part m (take (size - 0) (last ++ rest)) (element m r x)
-      unfolding element
-      loaded {last} old rest fits l e =
-          let n : length (take (size - 0) old) ≡ size - 0 = length-take-le (size - 0) old (omega (arith, small)) in
-          let s : length (take (size - 0) old) ≡ factorial (suc m) = n ∙ omega (arith, z .whole) in
-          record { is = take-at last rest (size - 0) (l ∙ n) ∙ e ∙ ap (λ n. take n (drop (720 * r) x)) s; fit = words-element (λ i l. known i .fits) }
+      -- d is a copy of the register
+      pub copied : {d : List ℕ} → d ≡ register r x → Part m (take (size - 0) d) (element m r x)
+      unfolding register element
+      copied {d} e =
+          let n : size - 0 ≡ factorial (suc m) = omega (arith, z .whole) in record {
+            is = (λ i. take (n i) (e i)) ∙ take-take (factorial (suc m)) 720 (drop (720 * r) x) (omega (arith, small, z .whole));
+            fit = words-element (λ i l. known i .fits);
+          }

@@ -1,9 +1,12 @@
 -- What the commands of a sheet mean, one by one (document 01, "Run sheets").
 --
---   obey m q c x         the words of the registers after the command c, in a sheet of rank m with the word q
---   cost m c             the ring operations that the command counts
+--   updated h u x        the words of the registers after the update u, in a sheet that begins with the header h
+--   obey h c x           the same after any command
+--   updateCost m u       the ring operations that an update counts at rank m
+--   cost m c             the same for any command
+--   costCall m c         the same, and 0 where the command is not in range
 --   stepReport a         number, place and count of an answer: document 01 has no number for a command that is not obeyed
---   stepCall m q c x     one command on lent registers: the answer with the count, and the registers; nothing is done where an operand is out of range
+--   stepCall h c x       one command on lent registers: the answer with the count, and the registers; nothing is done where an operand is out of range
 --                        or the registers are not 4 × 720 words
 use mathlib.Core.Bool.{cond, _&&_}
 use mathlib.Core.List.{List, [], _∷_}
@@ -18,45 +21,55 @@ use Rattle.algebra.specs.Element.{plus, scale, unit}
 use Rattle.algebra.specs.Product.{act, times}
 use Rattle.algebra.specs.Cost.{C}
 use Rattle.element_calls.specs.Coefficients.{ring, parametersOf}
+use Rattle.sheet_format.specs.declared.Header.{Header}
+use Rattle.sheet_format.specs.declared.Update.{Update}
+use Rattle.sheet_format.specs.declared.Update.the-variants.{Unit, Set, Letter, Product, Sum, Scale}
 use Rattle.sheet_format.specs.declared.Command.{Command}
-use Rattle.sheet_format.specs.declared.Command.the-variants.{End, Begin, Unit, Set, Letter, Product, Sum, Scale, Show, Pair, Equal}
+use Rattle.sheet_format.specs.declared.Command.the-variants.{End, Begin, Change, Show}
 use Rattle.sheet.specs.Check.{inRange}
 use Rattle.machine.specs.Registers.{element, put, zeros}
 use Rattle.machine.specs.declared.Stepped.{Stepped}
 use Rattle.machine.specs.declared.Stepped.the-variants.{Obeyed, NotObeyed}
 
-unfoldable pub obey : ℕ → ℕ → Command → List ℕ → List ℕ
-obey m q End x = x
-obey m q (Begin n p) x = put 3 (zeros m) (put 2 (zeros m) (put 1 (zeros m) (put 0 (zeros m) x)))
-obey m q (Unit r) x = put r (unit ℕ words m) x
-obey m q (Set r i v) x = put r (set (element m r x) i v) x
-obey m q (Letter r i) x = let p = parametersOf q in put r (act ℕ (ring p) (p .q) (p .r) m (i ∷ []) (element m r x)) x
-obey m q (Product d a b) x = let p = parametersOf q in put d (times ℕ (ring p) (p .q) (p .r) m m (element m a x) (element m b x)) x
-obey m q (Sum d a b) x = put d (plus ℕ words (element m a x) (element m b x)) x
-obey m q (Scale r v) x = put r (scale ℕ words v (element m r x)) x
-obey m q (Show r) x = x
-obey m q (Pair a b) x = x
-obey m q (Equal a b) x = x
+unfoldable pub updated : Header → Update → List ℕ → List ℕ
+updated h (Unit r) x = put r (unit ℕ words (h .rank)) x
+updated h (Set r i v) x = put r (set (element (h .rank) r x) i v) x
+updated h (Letter r i) x = let p = parametersOf (h .q) in put r (act ℕ (ring p) (p .q) (p .r) (h .rank) (i ∷ []) (element (h .rank) r x)) x
+updated h (Product d a b) x =
+    let p = parametersOf (h .q) in
+    put d (times ℕ (ring p) (p .q) (p .r) (h .rank) (h .rank) (element (h .rank) a x) (element (h .rank) b x)) x
+updated h (Sum d a b) x = put d (plus ℕ words (element (h .rank) a x) (element (h .rank) b x)) x
+updated h (Scale r v) x = put r (scale ℕ words v (element (h .rank) r x)) x
+
+unfoldable pub obey : Header → Command → List ℕ → List ℕ
+obey h End x = x
+obey h (Begin b) x = let z = zeros (h .rank) in put 3 z (put 2 z (put 1 z (put 0 z x)))
+obey h (Change u) x = updated h u x
+obey h (Show w) x = x
+
+unfoldable pub updateCost : ℕ → Update → ℕ
+updateCost m (Unit r) = 0
+updateCost m (Set r i v) = 0
+updateCost m (Letter r i) = 3 * factorial (suc m) / 2
+updateCost m (Product d a b) = C m m
+updateCost m (Sum d a b) = factorial (suc m)
+updateCost m (Scale r v) = factorial (suc m)
 
 unfoldable pub cost : ℕ → Command → ℕ
 cost m End = 0
-cost m (Begin n p) = 0
-cost m (Unit r) = 0
-cost m (Set r i v) = 0
-cost m (Letter r i) = 3 * factorial (suc m) / 2
-cost m (Product d a b) = C m m
-cost m (Sum d a b) = factorial (suc m)
-cost m (Scale r v) = factorial (suc m)
-cost m (Show r) = 0
-cost m (Pair a b) = 0
-cost m (Equal a b) = 0
+cost m (Begin b) = 0
+cost m (Change u) = updateCost m u
+cost m (Show w) = 0
+
+unfoldable pub costCall : ℕ → Command → ℕ
+costCall m c = cond (inRange m c) (cost m c) 0
 
 abbrev pub stepReport : Stepped → Report
 stepReport (Obeyed n) = reported Accepted n
 stepReport NotObeyed = reported Accepted 0
 
-unfoldable pub stepCall : ℕ → ℕ → Command → List ℕ → Outcome Stepped (List ℕ)
-stepCall m q c x =
-    cond (inRange m c && same (length x) 2880)
-    (record { answer = Obeyed (cost m c); lent = obey m q c x })
+unfoldable pub stepCall : Header → Command → List ℕ → Outcome Stepped (List ℕ)
+stepCall h c x =
+    cond (inRange (h .rank) c && same (length x) 2880)
+    (record { answer = Obeyed (cost (h .rank) c); lent = obey h c x })
     (record { answer = NotObeyed; lent = x })

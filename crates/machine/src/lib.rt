@@ -3,11 +3,18 @@
 ghost use mathlib.Core.Path.{_≡_};
 ghost use mathlib.Core.Bool.{true};
 ghost use lib.ListN.{length};
+ghost use Rattle.sheet_format.specs.declared.Command.the-variants.{Change};
 ghost use Rattle.sheet.specs.Check.{inRange};
-ghost use Rattle.machine.specs.Step.{obey, cost, stepCall};
+ghost use Rattle.machine.specs.Steps.{Registers};
+ghost use Rattle.machine.specs.Step.{updated, obey, stepCall};
 use sheet_format::Command;
+use sheet_format::Header;
+use sheet_format::Update;
 
+mod counting;
 mod registers;
+
+pub use counting::cost;
 
 // The answer of one command.
 pub enum Stepped {
@@ -17,38 +24,49 @@ pub enum Stepped {
     NotObeyed,
 }
 
-// A command whose operands are in range, in a sheet of rank m with the word q. The answer is its count.
-fn obey(x: &mut [u64], m: usize, q: u64, command: Command) -> u64
-    requires { ⌜ (length (now x) ≡ 2880) × (inRange m command ≡ true) ⌝ }
-    ensures { λ r. ⌜ (now (x .exit) ≡ obey m q command (now (x .entry))) × (r ≡ cost m command) ⌝ }
+// An update whose operands are in range.
+fn update(x: &mut [u64], header: Header, size: usize, update: Update)
+    requires { ⌜ Registers (header .rank) size (now x) × (inRange (header .rank) (Change update) ≡ true) ⌝ }
+    ensures { λ _. ⌜ now (x .exit) ≡ updated header update (now (x .entry)) ⌝ }
 {
-    let size = ranks::size(m);
-    match command {
-        Command::End => 0,
-        Command::Begin(_, _) => registers::begin(x, m, size),
-        Command::Unit(r) => registers::make_unit(x, m, size, r),
-        Command::Set(r, i, v) => registers::set_coefficient(x, m, size, r, i, v),
-        Command::Letter(r, i) => registers::letter(x, m, size, q, r, i),
-        Command::Product(d, a, b) => registers::product(x, m, size, q, d, a, b),
-        Command::Sum(d, a, b) => registers::sum(x, m, size, d, a, b),
-        Command::Scale(r, v) => registers::multiple(x, m, size, r, v),
-        Command::Show(_) => 0,
-        Command::Pair(_, _) => 0,
-        Command::Equal(_, _) => 0,
+    let m = header.rank;
+    let q = header.q;
+    match update {
+        Update::Unit(r) => registers::make_unit(x, m, size, r),
+        Update::Set(r, i, v) => registers::set_coefficient(x, m, size, r, i, v),
+        Update::Letter(r, i) => registers::letter(x, m, size, q, r, i),
+        Update::Product(d, a, b) => registers::product(x, m, size, q, d, a, b),
+        Update::Sum(d, a, b) => registers::sum(x, m, size, d, a, b),
+        Update::Scale(r, v) => registers::multiple(x, m, size, r, v),
     }
 }
 
-// One command, in a sheet of rank m with the word q, on registers of 4 x 720 words, register r from 720 r on. A show changes
+// A command whose operands are in range.
+fn obey(x: &mut [u64], header: Header, command: Command)
+    requires { ⌜ (length (now x) ≡ 2880) × (inRange (header .rank) command ≡ true) ⌝ }
+    ensures { λ _. ⌜ now (x .exit) ≡ obey header command (now (x .entry)) ⌝ }
+{
+    let size = ranks::size(header.rank);
+    match command {
+        Command::End => {}
+        Command::Begin(_) => registers::begin(x, header.rank, size),
+        Command::Change(change) => update(x, header, size, change),
+        Command::Show(_) => {}
+    }
+}
+
+// One command, in a sheet that begins with the header, on registers of 4 x 720 words, register r from 720 r on. A show changes
 // nothing.
 // Example: of rank 1, the unit into register 0 makes the first two words 1 0.
-pub fn step(m: usize, q: u64, command: Command, x: &mut [u64]) -> Stepped
-    ensures { λ r. ⌜ stepCall m q command (now (x .entry)) ≡ record { answer = r; lent = now (x .exit) } ⌝ }
+pub fn step(x: &mut [u64], header: Header, command: Command) -> Stepped
+    ensures { λ r. ⌜ stepCall header command (now (x .entry)) ≡ record { answer = r; lent = now (x .exit) } ⌝ }
 {
     if x.len() != 2880 {
         return Stepped::NotObeyed;
     }
-    if !sheet::in_range(m, command) {
+    if !sheet::in_range(header.rank, command) {
         return Stepped::NotObeyed;
     }
-    Stepped::Obeyed(obey(x, m, q, command))
+    obey(x, header, command);
+    Stepped::Obeyed(cost(header.rank, command))
 }

@@ -7,7 +7,7 @@ use borrow.Author.Tests.{not-true}
 use lib.ListN.{length}
 use Rattle.lists.proofs.Test.{same-yes, same-no, not-false}
 use Rattle.sheet.specs.Check.{inRange}
-use Rattle.machine.specs.Step.{stepCall}
+use Rattle.machine.specs.Step.{cost, costCall, stepCall}
 use Rattle.machine.specs.declared.Stepped.the-variants.{Obeyed}
 use Rattle.machine.proofs.step.Statement.{statement}
 use Rattle.machine.proofs.step.Tie as tie
@@ -22,7 +22,7 @@ sized c = c .before .before
 
 -- ---- the needs
 
-ranged : (c : tie.Else2) → let u = start (sized c) .args in inRange (u .m) (u .command) ≡ true
+ranged : (c : tie.Else2) → let u = start (sized c) .args in inRange (u .header .rank) (u .command) ≡ true
 ranged c = sym (c .before .in-range .ensures) ∙ not-false _ (c .if2 .left)
 
 returns : tie.Need-returns
@@ -36,11 +36,16 @@ returns-2 c = rw (sym (c .before .in-range .ensures) ∙ not-true _ (c .if2 .tak
 obey-requires : tie.Need-obey-requires
 obey-requires c κs = (omega arith, ranged (c .before))
 
+-- what `cost` answered
+counted : (c : tie.After-cost) → let u = start (sized (c .before .before .before .before .before)) .args in cost (u .header .rank) (u .command) ≡ c .cost .result
+unfolding costCall
+counted c = sym (rw (ranged (c .before .before .before .before .before)) at (c .cost .ensures))
+
 returns-3 : tie.Need-returns-3
 unfolding stepCall
-returns-3 c = let done = c .before .before in let e = done .obey .ensures in let judged = done .before .before in
+returns-3 c = let done = c .before .before .before in let judged = done .before .before in
     rw (ranged judged, same-yes {x = length (start (sized judged) .args .x .now)} {a = 2880} (omega arith))
-    (λ i. record { answer = Obeyed (sym (e .1) i); lent = sym (e .0) i })
+    (λ i. record { answer = Obeyed (counted c i); lent = sym (done .obey .ensures) i })
 
 pub step-spec : {M : Type 1} → statement M
-step-spec = tie.close (tie.spec returns (λ c κs. search needs) returns-2 obey-requires (λ c. search needs) returns-3)
+step-spec = tie.close (tie.spec returns (λ c κs. search needs) returns-2 obey-requires (λ c κs. search needs) (λ c. search needs) returns-3)

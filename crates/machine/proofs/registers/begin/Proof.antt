@@ -1,11 +1,7 @@
 -- Four calls, one after another.
-use mathlib.Core.Path.{refl}
 use borrow.Author.Needs.{needs}
 use Rattle.machine.proofs.registers.begin.Statement.{statement}
 use Rattle.machine.proofs.registers.begin.Tie as tie
 
-returns : tie.Need-returns
-returns c = (cc, refl)
-
 pub begin-spec : {M : Type 1} → statement M
-begin-spec = tie.close (tie.spec (λ c κs. search needs) (λ c κs. search needs) (λ c κs. search needs) (λ c κs. search needs) (λ c. search needs) returns)
+begin-spec = tie.close (tie.spec (λ c κs. search needs) (λ c κs. search needs) (λ c κs. search needs) (λ c κs. search needs) (λ c. search needs) (λ c. cc))

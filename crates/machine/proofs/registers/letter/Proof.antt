@@ -26,7 +26,7 @@ returns c =
     let r = start .pre .one in
     let done = act-taken (z .low) (start .args .q) (start .args .i ∷ []) (start .fits .q .fits)
     (record { low = start .pre .least; high = start .pre .most }, tt) (omega arith) (lent z r (known called .slice-known .given)) (call .ensures) in
-    (back z r (call .kept .1 .1 .1 .0) (done .0), omega (arith, done .1))
+    back z r (call .kept .1 .1 .1 .0) (done .writes)
 
 pub letter-spec : {M : Type 1} → statement M
 letter-spec =

@@ -1,5 +1,4 @@
 -- One store in the element. Rests on Put.
-use mathlib.Core.Path.{refl}
 use native.Mathlib.Omega.{arith}
 use borrow.Author.Needs.{needs}
 use Rattle.machine.proofs.Put.{inside, set-element}
@@ -7,7 +6,7 @@ use Rattle.machine.proofs.registers.set_coefficient.Statement.{statemen
 use Rattle.machine.proofs.registers.set_coefficient.Tie as tie
 
 returns : tie.Need-returns
-returns c = (set-element (c .pre .0) (c .pre .1) (c .args .i) (c .args .v) (c .pre .2), refl)
+returns c = set-element (c .pre .0) (c .pre .1) (c .args .i) (c .args .v) (c .pre .2)
 
 pub set-coefficient-spec : {M : Type 1} → statement M
 set-coefficient-spec =

@@ -1,0 +1,41 @@
+-- Each arm is the definition's line for its update. Rests on ranks' Sizes.
+use mathlib.Core.Path.{_≡_, refl, ap, _∙_}
+use Prim.Native.Nat.{suc, _*_, _/_}
+use native.Mathlib.Omega.{arith}
+use borrow.Author.Needs.{needs}
+use Rattle.lists.specs.Numbers.{factorial}
+use Rattle.ranks.proofs.Sizes.{size-is, product-count-is, sheet-size-small}
+use Rattle.machine.specs.Step.{updateCost}
+use Rattle.machine.proofs.counting.update_cost.Statement.{statement}
+use Rattle.machine.proofs.counting.update_cost.Tie as tie
+
+-- what `size` is
+sized : (c : tie.After-size) → c .size .result ≡ factorial (suc (c .before .args .m))
+sized c = c .size .ensures ∙ size-is (c .before .args .m) (omega arith)
+
+mul-result : tie.Need-mul-result
+mul-result c = let s = c .before .before in record { fits = omega (arith, sized s, sheet-size-small (s .before .args .m) (omega arith)) }
+
+letter : tie.Need-returns-3
+unfolding updateCost
+letter c = rw (c .enum-told3 .given .1) (ap (λ n. 3 * n / 2) (sized (c .before .before)))
+
+product : tie.Need-returns-4
+unfolding updateCost
+product c = rw (c .before .enum-told4 .given .1) (c .product-count .ensures ∙ product-count-is (c .before .before .before .before .args .m) (omega arith))
+
+sum : tie.Need-returns-5
+unfolding updateCost
+sum c = rw (c .enum-told5 .given .1) (sized (c .before .before))
+
+scale : tie.Need-returns-6
+unfolding updateCost
+scale c = rw (c .enum-told6 .given .1) (sized (c .before .before))
+
+pub update-cost-spec : {M : Type 1} → statement M
+unfolding updateCost
+update-cost-spec =
+    tie.close
+    (tie.spec (λ c κs. search needs) (λ c. search needs) (λ c. search needs) (λ c. search needs) mul-result (λ c. search needs) (λ c κs. search needs)
+    (λ c. search needs) (λ c. search needs)
+    (λ c. rw (c .enum-told .given .1) refl) (λ c. rw (c .enum-told2 .given .1) refl) letter product sum scale)
