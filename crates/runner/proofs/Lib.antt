@@ -8,3 +8,4 @@ pub mod Turning
 pub mod Running
 mod Ran
 mod Kept
+pub mod Runs

@@ -40,7 +40,7 @@ module _ (s x : List ℕ) {a : Answer} where
         let cleared : y ≡ replicate 2880 0 = zeros ∙ ap (λ n. replicate n 0) four in
         let b = begun-ready s begun in
         let m : obeyed s ≡ record { contents = z; count = n } =
-            (λ i. obeyAll (b .header-is i) (commands (placed s)) (record { contents = sym cleared i; count = 0 })) ∙ done in
+        (λ i. obeyAll (b .header-is i) (commands (placed s)) (record { contents = sym cleared i; count = 0 })) ∙ done in
         ended-done refused x (rw (b .accepted, same-yes four) refl) (f ∙ ap (λ o. accepted (o .count)) (sym m)) (ap (λ o. o .contents) (sym m))
 
 -- the call on registers of zeros

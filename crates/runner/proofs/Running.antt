@@ -3,20 +3,22 @@
 --   Running s h old k x   the run of the sheet s with the header h began on the registers old, and comes to the cursor k with the registers x
 use mathlib.Core.Path.{_≡_, refl, sym, ap, _∙_}
 use mathlib.Core.List.{List, [], _∷_}
-use Prim.Native.Nat.{ℕ, zero, suc, _-_, _<_}
+use Prim.Native.Nat.{ℕ, zero, suc, _-_, _≤_, _<_}
 use native.Mathlib.Omega.{arith}
 use lib.ListN.{length}
+use Rattle.refusals.specs.declared.Verdict.the-variants.{Accepted}
+use Rattle.sheet_format.specs.Format.{header}
 use Rattle.sheet_format.specs.declared.Header.{Header}
-use Rattle.sheet.specs.Check.{placed, commands}
+use Rattle.sheet.specs.Check.{placed, commands, checkSheet}
 use Rattle.runner.specs.Run.{State, obeyAll}
-use Rattle.runner.specs.Turn.{beginCall, turnCall, ahead}
+use Rattle.runner.specs.Turn.{first, begunFor, beginCall, turnCall, goesOn, turns, ahead}
 use Rattle.runner.specs.declared.Cursor.{Cursor}
 use Rattle.runner.specs.declared.Begun.the-variants.{Ready}
 use Rattle.runner.specs.declared.Turned.{Turned}
-use Rattle.runner.specs.declared.Turned.the-variants.{On}
+use Rattle.runner.specs.declared.Turned.the-variants.{On, Ended, NotObeyed}
 use Rattle.runner.proofs.Ahead.{ahead-start}
 use Rattle.runner.proofs.Beginning.{begun-ready}
-use Rattle.runner.proofs.Turning.{state, Along, Goes, Ends, along-first, turn-goes, turn-ends}
+use Rattle.runner.proofs.Turning.{state, Along, Goes, Ends, along-first, along-within, turn-goes, turn-ends}
 
 module _ {s : List ℕ} {h : Header} {k : Cursor} {x : List ℕ} where
   -- what is left to obey at a cursor, and at the next one
@@ -49,17 +51,24 @@ module _ {s : List ℕ} {h : Header} where
 
 -- ---- the turns of a run, up to its end
 
-turns-from : (n : ℕ) {s : List ℕ} {h : Header} {k : Cursor} {x : List ℕ} → length s - k .at ≤ n → Along s h k x
+turns-from : (n : ℕ) {s : List ℕ} {h : Header} (k : Cursor) (x : List ℕ) → length s - k .at ≤ n → Along s h k x
     → let o = turns n s h k x in record { contents = o .lent; count = o .answer .count } ≡ obeyAll h (ahead s (k .at)) (state k x)
 unfolding turns
-turns-from zero l a = absurd (omega (arith, along-within a))
-turns-from (suc n) {s} {h} {k} {x} l a = go (turnCall s h k x) refl
+turns-from zero k x l a = absurd (omega (arith, along-within a))
+turns-from (suc n) {s} {h} k x l a = go (turnCall s h k x .answer) (turnCall s h k x .lent) refl (turns-from n)
   where
-    -- the turn gave o
-    go : (o : Outcome Turned (List ℕ)) → turnCall s h k x ≡ o
-        → let f = goesOn o k (turns n s h) in record { contents = f .lent; count = f .answer .count } ≡ obeyAll h (ahead s (k .at)) (state k x)
-    go o e = ?
+    -- the turn answered t and left y
+    go : (t : Turned) (y : List ℕ) → turnCall s h k x ≡ record { answer = t; lent = y }
+        → ((to : Cursor) (y : List ℕ) → length s - to .at ≤ n → Along s h to y
+        → let o = turns n s h to y in record { contents = o .lent; count = o .answer .count } ≡ obeyAll h (ahead s (to .at)) (state to y))
+        → let o = goesOn t y k (turns n s h) in record { contents = o .lent; count = o .answer .count } ≡ obeyAll h (ahead s (k .at)) (state k x)
+    go (On to) y e ih = let g = turn-goes a e in ih to y (omega (arith, g .on)) (g .along) ∙ sym (goes-obeys g)
+    go Ended y e ih = sym (ends-obeys (turn-ends a e (λ to f. let z : _≡_ {A = ℕ} 0 1 = cc in omega arith)))
+    go NotObeyed y e ih = sym (ends-obeys (turn-ends a e (λ to f. let z : _≡_ {A = ℕ} 0 1 = cc in omega arith)))
 
 pub turns-obey : (s : List ℕ) → checkSheet s ≡ Accepted → (x : List ℕ) → length x ≡ 2880 → let o = turns (length s) s (header s) first x in
     record { contents = o .lent; count = o .answer .count } ≡ obeyAll (header s) (commands (placed s)) (record { contents = x; count = 0 })
-turns-obey s a x four = turns-from (length s) (omega arith) (along-first (begun s a) four) ∙ ap (λ cs. obeyAll (header s) cs (record { contents = x; count = 0 })) (ahead-start s)
+unfolding beginCall
+turns-obey s a x four =
+    turns-from (length s) first x (omega arith) (along-first (ap (λ v. begunFor v s) a) four)
+    ∙ ap (λ cs. obeyAll (header s) cs (record { contents = x; count = 0 })) (ahead-start s)

@@ -9,7 +9,7 @@
 --   onward c k            how a run goes on after the command, with the cursor k after it
 --   turnOf h k found x    what a turn answers and leaves, where `found` stands at the cursor; nothing is done where that is not obeyed
 --   turnCall s h k x      the same of the sheet s
---   goesOn o k f          f from the next cursor on; the cursor k where there is none
+--   goesOn t y k f        after a turn at the cursor k that answered t and left y: f from the next cursor on, if there is one
 --   turns n s h k x       n turns, or fewer where the run ends: the last cursor, and the registers
 --   ahead s at            the commands of the sheet s from an offset on
 use mathlib.Core.Bool.{Bool, cond, _&&_}
@@ -67,17 +67,14 @@ turnCall s h k x = turnOf h k (decode s (k .at)) x
 
 -- ---- one after another
 
-abbrev pub goesOn : Outcome Turned (List ℕ) → Cursor → (Cursor → List ℕ → Outcome Cursor (List ℕ)) → Outcome Cursor (List ℕ)
-goesOn o k f = continued (o .answer)
-  where
-    continued : Turned → Outcome Cursor (List ℕ)
-    continued (On next) = f next (o .lent)
-    continued Ended = record { answer = k; lent = o .lent }
-    continued NotObeyed = record { answer = k; lent = o .lent }
+abbrev pub goesOn : Turned → List ℕ → Cursor → (Cursor → List ℕ → Outcome Cursor (List ℕ)) → Outcome Cursor (List ℕ)
+goesOn (On next) y k f = f next y
+goesOn Ended y k f = record { answer = k; lent = y }
+goesOn NotObeyed y k f = record { answer = k; lent = y }
 
 unfoldable pub turns : ℕ → List ℕ → Header → Cursor → List ℕ → Outcome Cursor (List ℕ)
 turns zero s h k x = record { answer = k; lent = x }
-turns (suc n) s h k x = goesOn (turnCall s h k x) k (turns n s h)
+turns (suc n) s h k x = let o = turnCall s h k x in goesOn (o .answer) (o .lent) k (turns n s h)
 
 abbrev pub ahead : List ℕ → ℕ → List Command
 ahead s at = commands (placedFrom (suc (length s - at)) s at)

@@ -33,7 +33,7 @@ returns-3 : tie.Need-returns-3
 returns-3 c = let s = step (c .before .before) in turn-unobeyed _ _ _ _ _ (cost s .cost .ensures) (s .step .ensures) (c .enum-told2 .given .1)
 
 pub obey-next-spec : {M : Type 1} → statement M
-obey-next-spec = 
+obey-next-spec =
     tie.close
     (tie.spec (λ c κs. search needs) (λ c. omega arith) returns (λ c κs. search needs) (λ c. search needs) (λ c. omega arith) (λ c κs. search needs)
     (λ c. search needs) (λ c. search needs) returns-2 (λ c. search needs) returns-3)
