@@ -16,7 +16,7 @@ use Rattle.refusals.specs.declared.Verdict.the-variants.{Refused}
 use Rattle.sheet_format.specs.Format.{decode, header}
 use Rattle.sheet_format.specs.declared.Decoded.{Decoded}
 use Rattle.sheet_format.specs.declared.Decoded.the-variants.{Found, NoCommand, Short, Nothing}
-use Rattle.sheet_format.proofs.Offsets.{found-within, past-end}
+use Rattle.sheet_format.proofs.Offsets.{found-within}
 use Rattle.sheet.specs.Check.{isEnd, inOrder, inRange, Placed, following, placedFrom, placed, judge, firstRefusal}
 use Rattle.sheet.specs.Steps.{judgedCommand, judged}
 use Rattle.sheet.specs.declared.checks.Judged.{Judged}
@@ -62,9 +62,6 @@ check-step s at = go (decode s at) refl
 
 pub stands : {d : Decoded} (s : List ℕ) (at : ℕ) → decode s at ≡ d → checkFrom s at ≡ follow s (judged (length s) (header s .rank) at d)
 stands s at e = check-step s at ∙ ap (λ d. follow s (judged (length s) (header s .rank) at d)) e
-
-pub from-end : (s : List ℕ) (at : ℕ) → length s ≤ at → checkFrom s at ≡ Refused (Ending at)
-from-end s at h = stands s at (past-end s at h)
 
 -- ---- what the code's loop goes by
 

@@ -145,17 +145,15 @@ pub(crate) fn commands(sheet: &[u8], m: usize) -> Verdict
     ensures { λ r. ⌜ r ≡ firstRefusal (now (sheet .entry)) (placed (now (sheet .entry))) ⌝ }
 {
     let n = sheet.len();
-    let mut at = 0;
-    while at < n {
-        let judged = judge(n, m, at, sheet_format::read(sheet, at));
-        match judged {
+    let mut reader = sheet_format::reader_at(sheet, 0);
+    loop {
+        match judge(n, m, reader.at, sheet_format::next(reader)) {
             Judged::On(after) => {
-                at = after;
+                reader = sheet_format::moved(reader, after);
             }
             Judged::Done(verdict) => {
                 return verdict;
             }
         }
     }
-    Verdict::Refused(Refusal::Ending(n))
 }

@@ -3,6 +3,7 @@ mod Codes
 mod Numbers
 pub mod Offsets
 -- the reader
-mod Contracts
-mod Walks
-mod Held
+pub mod Contracts
+pub mod Locals
+pub mod Walks
+pub mod Held

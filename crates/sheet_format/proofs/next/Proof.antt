@@ -14,8 +14,7 @@ use contract.Monad.{Fun, factI}
 use contract.Running.{givenOf, tables}
 use types.Kit.{Given, ‵, raw, _$_, _∵_, !, qed, by, move, drop, use1, fsplit}
 use types.Part.{whole, sub, look-in}
-use types.Run.{look, init, forget, stop, fld, from, load, of-opd, and-then, no-more, assigns, land, returns, enter}
-use types.Run.{alloc1, alloc0, params1, pass1, pass0, free1, free0}
+use types.Run.{look, init, stop, fld, from, load, of-opd, and-then, no-more, assigns, land, returns, enter, params1, pass1, pass0}
 use sound.WpLaws.{FmC}
 use denote.Ref.{now}
 use denote.Slice.{slice-vals}
@@ -25,9 +24,11 @@ use denote.Triple.Table.{cited}
 use Rattle.sheet_format.specs.Format.{decode}
 use Rattle.sheet_format.specs.declared.Reader.{Reader}
 use Rattle.sheet_format.proofs.Contracts.{local, ContractOf, ends, calls}
+use Rattle.sheet_format.proofs.Locals.{holds, allocated, released}
 use Rattle.sheet_format.proofs.Walks.{Walk, begins, frames}
 use Rattle.sheet_format.proofs.Held.{row, of-none, of-reader, fields-own, taken, decoded-typed}
 use Rattle.sheet_format.proofs.Reader.Laws as T′
+use Rattle.sheet_format.proofs.Decoded.Laws as D′
 use Rattle.sheet_format.proofs.decoder.decode as decodes
 use Rattle.sheet_format.proofs.decoder.decode.Symbol as decode-def
 use Rattle.sheet_format.proofs.decoder.decode.Symbol.{name as #decode}
@@ -47,8 +48,7 @@ module _ {M : Type 1} (𝓤 : URA M) (H : Heap 𝓤) (A : Atoms 𝓤) (mem : Mem
       go = λ κs qs a g wt.
           let d : Reader = a .0 in
           qed W (raw (alive 𝓤 H A next.signature κs qs) ∷ ‵ (fsep (row κs .own d (T′.lowered d ∷ [])) ftrue) ∷ []) ∵
-          enter ! C Λ code.function _ _ $ alloc1 ! (λ l₀. alloc1 ! (λ l₁. alloc1 ! (λ l₂. alloc1 ! (λ l₃. alloc0 ! $
-          params1 ! $ pass1 ! (init ! 4 refl (wt .0)) $ pass0 ! $
+          enter ! C Λ code.function _ _ $ allocated ! (λ b. params1 ! $ pass1 ! (init ! 4 refl (wt .0)) $ pass0 ! $
           assigns ! (of-opd ! (load ! (from ! (fld ! refl (stop !))) (look-in ! 4 (sub ! 0 refl (whole !))))) (from ! (stop !))
           (init ! 2 refl (tt, wt .0 .1 .0)) $
           assigns ! (of-opd ! (load ! (from ! (fld ! refl (stop !))) (look-in ! 4 (sub ! 1 {d = 16} refl (whole !))))) (from ! (stop !))
@@ -56,13 +56,12 @@ module _ {M : Type 1} (𝓤 : URA M) (H : Heap 𝓤) (A : Atoms 𝓤) (mem : Mem
           -- [_3; _; _2; _; _1; _; _0; _; the token; what the parameter owns]
           move ! (9 ∷ 8 ∷ []) $ fsplit ! $ move ! (1 ∷ []) $ drop ! $ use1 W (‵ (fields-own κs d)) (taken 𝓤 H A W κs d (T′.lowered d)) $
           calls 𝓤 H A decodes.ended (decodes.clauses 𝓤 H A mem run) κs qs (d .sheet, (d .at, tt)) tt (slice-vals (d .sheet), (vint w64 (d .at) ∷ [], tt)) tt
-          ! fm known (id⊢ 𝓤 _) (λ r. r ≡ decode (now (d .sheet)) (d .at)) (λ r ws. id⊢ 𝓤 _)
-          (and-then ! (local ! 3 refl) (and-then ! (local ! 1 refl) (no-more !))) (λ u r e is.
+          ! fm known (id⊢ 𝓤 _) D′.lowers (λ r. r ≡ decode (now (d .sheet)) (d .at)) (λ r ws. id⊢ 𝓤 _)
+          (and-then ! (local ! 3 refl) (and-then ! (local ! 1 refl) (no-more !))) (λ r e is.
           -- [what the result owns; the token; _3; _; _2; _; _1; _; _0; _]
-          land ! (from ! (stop !)) (init ! 8 refl (decoded-typed 𝓤 H A W r u is .0)) $
-          returns ! (look ! 8 refl) $ forget ! 2 refl $ forget ! 4 refl $ forget ! 6 refl $ forget ! 8 refl $
-          move ! (8 ∷ 9 ∷ []) $ free1 ! $ move ! (6 ∷ 7 ∷ []) $ free1 ! $ move ! (4 ∷ 5 ∷ []) $ free1 ! $ move ! (2 ∷ 3 ∷ []) $ free1 ! $ free0 ! $
-          by ! (ends 𝓤 H A next.ended (next.clauses 𝓤 H A mem run) κs qs a g W u r (tt, tt) (tt, tt) (tt, tt) (factI 𝓤 _ (emp 𝓤) e)))))));
+          land ! (from ! (stop !)) (init ! 8 refl (decoded-typed 𝓤 H A W r (D′.lowered r) is .0)) $
+          returns ! (look ! 8 refl) $ released ! (holds _ ∷ holds _ ∷ holds _ ∷ holds _ ∷ []) $
+          by ! (ends 𝓤 H A next.ended (next.clauses 𝓤 H A mem run) κs qs a g W (D′.lowered r) r (tt, tt) (tt, tt) (tt, tt) (factI 𝓤 _ (emp 𝓤) e))));
     }
 
 pub next-spec : {M : Type 1} → stated.statement M

@@ -13,9 +13,10 @@ use ghost.Atoms.{Atoms}
 use contract.Monad.{Fun, factI}
 use contract.Running.{givenOf, tables}
 use types.Kit.{Given, ‵, raw, _$_, _∵_, !, qed, by, move, fjoin}
-use types.Run.{look, init, forget, stop, from, and-then, no-more, land, returns, enter, alloc1, alloc0, params1, pass1, pass0, free1, free0}
+use types.Run.{look, init, stop, from, and-then, no-more, land, returns, enter, params1, pass1, pass0}
 use sound.WpLaws.{FmC}
 use denote.Ref.{RefT, now}
+use denote.Signature.{namedLft}
 use denote.Slice.{slice-vals}
 use denote.Steps.{nothing}
 use denote.Triple.Entry.{alive}
@@ -23,8 +24,11 @@ use denote.Triple.Statement.{Contract, Triple}
 use denote.Triple.Table.{cited}
 use Rattle.sheet_format.specs.Format.{decode}
 use Rattle.sheet_format.proofs.Contracts.{local, ContractOf, ends, calls}
+use Rattle.sheet_format.proofs.Locals.{holds, allocated, released}
 use Rattle.sheet_format.proofs.Walks.{Walk, begins, frames}
 use Rattle.sheet_format.proofs.Held.{of-fields, fields-own, reader-typed, decoded-typed}
+use Rattle.sheet_format.proofs.Reader.Laws as T′
+use Rattle.sheet_format.proofs.Decoded.Laws as D′
 use Rattle.sheet_format.proofs.reader_at as reader-at
 use Rattle.sheet_format.proofs.reader_at.Symbol as reader-at-def
 use Rattle.sheet_format.proofs.reader_at.Symbol.{name as #reader-at}
@@ -53,25 +57,23 @@ module _ {M : Type 1} (𝓤 : URA M) (H : Heap 𝓤) (A : Atoms 𝓤) (mem : Mem
           let s : RefT (List ℕ) = a .0 in
           let n : ℕ = a .1 .0 in
           qed W (raw (alive 𝓤 H A read.signature κs qs) ∷ ‵ (fields-own κs (record { sheet = s; at = n })) ∷ []) ∵
-          enter ! C Λ code.function _ _ $ alloc1 ! (λ l₀. alloc1 ! (λ l₁. alloc1 ! (λ l₂. alloc1 ! (λ l₃. alloc0 ! $
-          params1 ! $ pass1 ! (init ! 4 refl (wt .0)) $ pass1 ! (init ! 2 refl (wt .1 .0)) $ pass0 ! $
+          enter ! C Λ code.function _ _ $ allocated ! (λ b. params1 ! $ pass1 ! (init ! 4 refl (wt .0)) $ pass1 ! (init ! 2 refl (wt .1 .0)) $ pass0 ! $
           -- [_3; _; _2; _; _1; _; _0; _; the token; what the parameters own]
           move ! (9 ∷ 8 ∷ []) $
           calls 𝓤 H A reader-at.ended (reader-at.clauses 𝓤 H A mem run) κs qs a tt (slice-vals s, (vint w64 n ∷ [], tt)) tt
-          ! fm known-at (id⊢ 𝓤 _) (λ r. (r .sheet ≡ s) × (r .at ≡ n)) (λ r ws. id⊢ 𝓤 _)
-          (and-then ! (local ! 5 refl) (and-then ! (local ! 3 refl) (no-more !))) (λ u r e is.
+          ! fm known-at (id⊢ 𝓤 _) (T′.lowers (namedLft 1 0 tt κs)) (λ r. (r .sheet ≡ s) × (r .at ≡ n)) (λ r ws. id⊢ 𝓤 _)
+          (and-then ! (local ! 5 refl) (and-then ! (local ! 3 refl) (no-more !))) (λ r e is.
           -- [what r owns; the token; _3; _; _2; _; _1; _; _0; _]: in a local the struct's lifetime is erased
-          land ! (from ! (stop !)) (init ! 2 refl (reader-typed 𝓤 H A W (record { mir = erased; lft = κs .0 }) r u is .0)) $
+          land ! (from ! (stop !)) (init ! 2 refl (reader-typed 𝓤 H A W (record { mir = erased; lft = κs .0 }) r (T′.lowered r) is .0)) $
           nothing ! $ move ! (1 ∷ 0 ∷ []) $ fjoin ! $
-          calls 𝓤 H A next.ended (next.clauses 𝓤 H A mem run) κs qs (r, tt) tt (u ∷ [], tt) tt
-          ! fm known-next (id⊢ 𝓤 _) (λ t. t ≡ decode (now (r .sheet)) (r .at)) (λ t ws. id⊢ 𝓤 _)
-          (and-then ! (local ! 1 refl) (no-more !)) (λ v t e′ is′.
+          calls 𝓤 H A next.ended (next.clauses 𝓤 H A mem run) κs qs (r, tt) tt (T′.lowered r ∷ [], tt) tt
+          ! fm known-next (id⊢ 𝓤 _) D′.lowers (λ t. t ≡ decode (now (r .sheet)) (r .at)) (λ t ws. id⊢ 𝓤 _)
+          (and-then ! (local ! 1 refl) (no-more !)) (λ t e′ is′.
           -- [what the result owns; the token; _3; _; _2; _; _1; _; _0; _]
-          land ! (from ! (stop !)) (init ! 8 refl (decoded-typed 𝓤 H A W t v is′ .0)) $
-          returns ! (look ! 8 refl) $ forget ! 2 refl $ forget ! 4 refl $ forget ! 6 refl $ forget ! 8 refl $
-          move ! (8 ∷ 9 ∷ []) $ free1 ! $ move ! (6 ∷ 7 ∷ []) $ free1 ! $ move ! (4 ∷ 5 ∷ []) $ free1 ! $ move ! (2 ∷ 3 ∷ []) $ free1 ! $ free0 ! $
-          by ! (ends 𝓤 H A read.ended (read.clauses 𝓤 H A mem run) κs qs a g W v t (tt, (tt, tt)) (tt, (tt, tt)) (tt, (tt, tt))
-          (factI 𝓤 _ (emp 𝓤) (e′ ∙ ap₂ (λ (x : RefT (List ℕ)) i. decode (now x) i) (e .0) (e .1))))))))));
+          land ! (from ! (stop !)) (init ! 8 refl (decoded-typed 𝓤 H A W t (D′.lowered t) is′ .0)) $
+          returns ! (look ! 8 refl) $ released ! (holds _ ∷ holds _ ∷ holds _ ∷ holds _ ∷ []) $
+          by ! (ends 𝓤 H A read.ended (read.clauses 𝓤 H A mem run) κs qs a g W (D′.lowered t) t (tt, (tt, tt)) (tt, (tt, tt)) (tt, (tt, tt))
+          (factI 𝓤 _ (emp 𝓤) (e′ ∙ ap₂ (λ (x : RefT (List ℕ)) i. decode (now x) i) (e .0) (e .1)))))));
     }
 
 pub read-spec : {M : Type 1} → stated.statement M

@@ -11,10 +11,11 @@ use contract.Monad.{Fun, factI}
 use contract.Running.{givenOf, tables}
 use types.Kit.{Given, ‵, raw, _$_, _∵_, !, qed, by, move, use1}
 use types.Part.{agg}
-use types.Run.{look, init, forget, stop, from, and-then, no-more, assigns, returns, enter, alloc1, alloc0, params1, pass1, pass0, free1, free0}
+use types.Run.{look, init, stop, from, and-then, no-more, assigns, returns, enter, params1, pass1, pass0}
 use denote.Triple.Entry.{alive}
 use Rattle.sheet_format.specs.declared.Reader.{Reader}
 use Rattle.sheet_format.proofs.Contracts.{local, ends}
+use Rattle.sheet_format.proofs.Locals.{holds, allocated, released}
 use Rattle.sheet_format.proofs.Walks.{Walk, begins}
 use Rattle.sheet_format.proofs.Held.{row, of-fields, fields-own, makes}
 use Rattle.sheet_format.proofs.Reader.Laws as T′
@@ -30,16 +31,14 @@ module _ {M : Type 1} (𝓤 : URA M) (H : Heap 𝓤) (A : Atoms 𝓤) (W : Given
     go = λ κs qs a g wt.
         let r : Reader = record { sheet = a .0; at = a .1 .0 } in
         qed W (raw (alive 𝓤 H A reader-at.signature κs qs) ∷ ‵ (fields-own κs r) ∷ []) ∵
-        enter ! C Λ code.function _ _ $ alloc1 ! (λ l₀. alloc1 ! (λ l₁. alloc1 ! (λ l₂. alloc0 ! $
-        params1 ! $ pass1 ! (init ! 2 refl (wt .0)) $ pass1 ! (init ! 0 refl (wt .1 .0)) $ pass0 ! $
+        enter ! C Λ code.function _ _ $ allocated ! (λ b. params1 ! $ pass1 ! (init ! 2 refl (wt .0)) $ pass1 ! (init ! 0 refl (wt .1 .0)) $ pass0 ! $
         assigns ! (agg ! (and-then ! (local ! 2 refl) (and-then ! (local ! 0 refl) (no-more !)))) (from ! (stop !))
         (init ! 4 refl (tt, (wt .0 .1, (wt .1 .0 .1, tt)))) $
-        returns ! (look ! 4 refl) $ forget ! 0 refl $ forget ! 2 refl $ forget ! 4 refl $
-        move ! (4 ∷ 5 ∷ []) $ free1 ! $ move ! (2 ∷ 3 ∷ []) $ free1 ! $ free1 ! $ free0 ! $
-        -- [the token; what the parameters own]
-        move ! (1 ∷ []) $ use1 W (‵ (row κs .own r (T′.lowered r ∷ []))) (makes 𝓤 H A W κs r) $
+        -- [_2; _; _1; _; _0; _; the token; what the parameters own]
+        move ! (7 ∷ 6 ∷ []) $ returns ! (look ! 6 refl) $ released ! (holds _ ∷ holds _ ∷ holds _ ∷ []) $
+        use1 W (‵ (row κs .own r (T′.lowered r ∷ []))) (makes 𝓤 H A W κs r) $
         by ! (ends 𝓤 H A reader-at.ended (reader-at.clauses 𝓤 H A mem run) κs qs a g W (T′.lowered r) r (tt, (tt, tt)) (tt, (tt, tt)) (tt, (tt, tt))
-        (factI 𝓤 _ (emp 𝓤) (refl, refl))))));
+        (factI 𝓤 _ (emp 𝓤) (refl, refl))));
   }
 
 pub reader-at-spec : {M : Type 1} → stated.statement M
