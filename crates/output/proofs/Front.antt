@@ -7,7 +7,8 @@ use lib.ListN.{length, drop, length-append}
 use Rattle.lists.specs.Overwrite.{overwrite}
 use Rattle.refusals.specs.Refusals.{Outcome}
 use Rattle.refusals.specs.declared.Refusal.{Refusal}
-use Rattle.sheet_format.specs.declared.Command.{Command}
+use Rattle.sheet_format.specs.declared.Header.{Header}
+use Rattle.runner.specs.declared.Cursor.{Cursor}
 use Rattle.output.specs.Steps.{Overwritten}
 use Rattle.output.specs.Printed.{front, textCall, errorCall}
 
@@ -20,10 +21,10 @@ unfolding front overwrite
 front-within t buffer e = omega (arith, ap (λ o. o .answer) e, ap (λ o. length (o .lent)) e, length-append t (drop (0 + length t) buffer))
 
 module _ {k : ℕ} {last : List ℕ} where
-  pub text-within : (m q : ℕ) (c : Command) (x : List ℕ) (n : ℕ) (buffer : List ℕ) → textCall m q c x n buffer ≡ record { answer = k; lent = last }
+  pub text-within : (s x : List ℕ) (h : Header) (c : Cursor) (buffer : List ℕ) → textCall s x h c buffer ≡ record { answer = k; lent = last }
       → k ≤ length last
   unfolding textCall
-  text-within m q c x n buffer e = front-within _ buffer e
+  text-within s x h c buffer e = front-within _ buffer e
 
   pub error-within : (why : Refusal) (buffer : List ℕ) → errorCall why buffer ≡ record { answer = k; lent = last } → k ≤ length last
   unfolding errorCall

@@ -13,16 +13,19 @@ use Rattle.lists.specs.Lists.{bit, All, equal}
 use Rattle.lists.specs.Numbers.{factorial}
 use Rattle.lists.proofs.All.{all-getD}
 use Rattle.algebra.specs.Pairing.{pairing}
+use Rattle.sheet_format.specs.declared.Header.{Header}
+use Rattle.sheet_format.specs.declared.Query.{Query}
+use Rattle.sheet_format.specs.declared.Query.the-variants.{Register, Pairing, Equality}
 use Rattle.sheet_format.specs.declared.Command.{Command}
-use Rattle.sheet_format.specs.declared.Command.the-variants.{End, Begin, Unit, Set, Letter, Product, Sum, Scale, Show, Pair, Equal}
+use Rattle.sheet_format.specs.declared.Command.the-variants.{End, Begin, Change, Show}
 use Rattle.sheet.specs.Check.{inRange}
-use Rattle.sheet.proofs.InRange.{low, within}
+use Rattle.sheet.proofs.InRange.{QueryWithin, low, within}
 use Rattle.machine.specs.Registers.{element}
 use Rattle.machine.specs.Steps.{Registers}
 use Rattle.machine.proofs.Put.{small, words-element}
 use Rattle.runner.specs.Run.{State}
 use Rattle.output.specs.Text.{coefficients, textRoom}
-use Rattle.output.specs.Printed.{text}
+use Rattle.output.specs.Printed.{shown, text}
 use Rattle.output.proofs.LineLengths.{bit-small, digit-line, line-short, tagged-pair-short, coefficients-short}
 
 abbrev Word : ℕ → Type 0
@@ -43,26 +46,24 @@ module _ {m : ℕ} {x : List ℕ} (z : Registers m (factorial (suc m)) x) {r : �
       let e = words-element z four (λ i l. all-getD Word x i 0 l a) in
       omega (arith, e .size, small z, coefficients-short 0 (element m r x) (omega (arith, e .size, small z)) (e .each))
 
-module _ (m q : ℕ) where
-  pub text-short : (c : Command) (x : State) → inRange m c ≡ true → length (x .contents) ≡ 2880 → All (λ n. n < 2 ^ 64) (x .contents) → x .count < 2 ^ 64
-      → ((n p : ℕ) → c ≡ Begin n p → p < 2 ^ 64) → length (text m q c x) ≤ textRoom
+module _ (h : Header) {x : List ℕ} (z : Registers (h .rank) (factorial (suc (h .rank))) x) (a : All Word x) where
+  abbrev at : ℕ → List ℕ
+  at r = element (h .rank) r x
+
+  shown-short : (w : Query) → QueryWithin w → length (shown h w x) ≤ textRoom
+  unfolding shown
+  shown-short (Register r) four = simp length-append (omega (arith, digit-line 82 r (omega arith), show-short z four a))
+  shown-short (Pairing g k) w =
+      omega (arith, line-short 80 (pairing ℕ words (h .q) (h .rank) (at g) (at k)) (pairing-word (h .q) (h .rank) (at g) (at k)))
+  shown-short (Equality g k) w = let b = equal (at g) (at k) in omega (arith, line-short 81 (bit b) (bit-small b))
+
+module _ (h : Header) where
+  pub text-short : (c : Command) (x : State) → inRange (h .rank) c ≡ true → length (x .contents) ≡ 2880 → All (λ n. n < 2 ^ 64) (x .contents)
+      → x .count < 2 ^ 64 → ((b : Header) → c ≡ Begin b → b .q < 2 ^ 64) → length (text h c x) ≤ textRoom
   unfolding text
   text-short End x e four a l w = omega (arith, line-short 78 (x .count) l)
-  text-short (Begin n p) x e four a l w =
-      omega (arith, tagged-pair-short 72 n p (omega (arith, within m (Begin n p) e refl, low m (Begin n p) e)) (w n p refl))
-  text-short (Unit r) x e four a l w = omega arith
-  text-short (Set r i v) x e four a l w = omega arith
-  text-short (Letter r i) x e four a l w = omega arith
-  text-short (Product d g h) x e four a l w = omega arith
-  text-short (Sum d g h) x e four a l w = omega arith
-  text-short (Scale r v) x e four a l w = omega arith
-  text-short (Show r) x e four a l w =
-      let h = within m (Show r) e refl in
-      let z : Registers m (factorial (suc m)) (x .contents) = record { low = low m (Show r) e; whole = refl; four = four } in
-      simp length-append (omega (arith, digit-line 82 r (omega arith), show-short z h a))
-  text-short (Pair g h) x e four a l w =
-      let v = pairing ℕ words q m (element m g (x .contents)) (element m h (x .contents)) in
-      omega (arith, line-short 80 v (pairing-word q m (element m g (x .contents)) (element m h (x .contents))))
-  text-short (Equal g h) x e four a l w =
-      let b = equal (element m g (x .contents)) (element m h (x .contents)) in
-      omega (arith, line-short 81 (bit b) (bit-small b))
+  text-short (Begin b) x e four a l w = let m = h .rank in
+      omega (arith, tagged-pair-short 72 (b .rank) (b .q) (omega (arith, within m (Begin b) e refl, low m (Begin b) e)) (w b refl))
+  text-short (Change u) x e four a l w = omega arith
+  text-short (Show q) x e four a l w = let m = h .rank in
+      shown-short h (record { low = low m (Show q) e; whole = refl; four = four }) a q (within m (Show q) e refl)

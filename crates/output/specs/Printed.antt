@@ -1,13 +1,16 @@
 -- What the program prints (document 01, "Run sheets").
 --
---   text m q c x             what a command prints, with the state before it, in a sheet of rank m with the word q
---   texts m q cs x           the same of the commands cs, one after another
+--   shown h w x              what a query prints, with the registers x, in a sheet with the header h
+--   text h c x               what a command prints, with the state before it
+--   texts h cs x             the same of the commands cs, one after another
 --   refusalText why          the line of a refused sheet
 --   printedFor v s           all that is printed for the sheet s with the verdict v
 --   printed s                all that is printed for the sheet s
 --   front t buffer           the text t put at the front of a buffer, and its size as the answer
---   textCall m q c x n buffer   the text of a command, where x holds the registers and n the count: nothing for a buffer with less than the room, for
---                            registers of another size than 4 × 720 words and for an operand out of range
+--   inRangeText h c x        the same of a command in range; nothing for another
+--   textOf h found x         the same of what is found at an offset
+--   textCall s x h k buffer  what the next command of the sheet s prints, where x holds the registers: nothing for a buffer with less than the room, and
+--                            for registers of another size than 4 × 720 words
 --   errorCall why buffer     the line of a refusal: nothing for a buffer with less than its room
 use mathlib.Core.Bool.{cond, not, _&&_}
 use mathlib.Core.List.{List, [], _∷_, _++_}
@@ -21,37 +24,42 @@ use Rattle.refusals.specs.declared.Refusal.{Refusal}
 use Rattle.refusals.specs.declared.Verdict.{Verdict}
 use Rattle.refusals.specs.declared.Verdict.the-variants.{Accepted, Refused}
 use Rattle.algebra.specs.Pairing.{pairing}
-use Rattle.sheet_format.specs.Format.{rank, parameter}
+use Rattle.sheet_format.specs.Format.{decode, header}
+use Rattle.sheet_format.specs.declared.Header.{Header}
+use Rattle.sheet_format.specs.declared.Query.{Query}
+use Rattle.sheet_format.specs.declared.Query.the-variants.{Register, Pairing, Equality}
 use Rattle.sheet_format.specs.declared.Command.{Command}
-use Rattle.sheet_format.specs.declared.Command.the-variants.{End, Begin, Unit, Set, Letter, Product, Sum, Scale, Show, Pair, Equal}
-use Rattle.sheet.specs.Check.{inRange, placed, checkSheet}
+use Rattle.sheet_format.specs.declared.Command.the-variants.{End, Begin, Change, Show}
+use Rattle.sheet_format.specs.declared.Decoded.{Decoded}
+use Rattle.sheet_format.specs.declared.Decoded.the-variants.{Found, NoCommand, Short, Nothing}
+use Rattle.sheet.specs.Check.{inRange, placed, commands, checkSheet}
 use Rattle.machine.specs.Registers.{element}
-use Rattle.runner.specs.Run.{State, start, after, commands}
+use Rattle.runner.specs.Run.{State, start, after}
+use Rattle.runner.specs.Turn.{state}
+use Rattle.runner.specs.declared.Cursor.{Cursor}
 use Rattle.output.specs.Text.{line, taggedPair, coefficients, textRoom, errorRoom}
 
 -- the letters E, H, N, P, Q and R are 69, 72, 78, 80, 81 and 82
-unfoldable pub text : ℕ → ℕ → Command → State → List ℕ
-text m q End x = line 78 (x .count)
-text m q (Begin n p) x = taggedPair 72 n p
-text m q (Unit r) x = []
-text m q (Set r i v) x = []
-text m q (Letter r i) x = []
-text m q (Product d a b) x = []
-text m q (Sum d a b) x = []
-text m q (Scale r v) x = []
-text m q (Show r) x = line 82 r ++ coefficients 0 (element m r (x .contents))
-text m q (Pair a b) x = line 80 (pairing ℕ words q m (element m a (x .contents)) (element m b (x .contents)))
-text m q (Equal a b) x = line 81 (bit (equal (element m a (x .contents)) (element m b (x .contents))))
+unfoldable pub shown : Header → Query → List ℕ → List ℕ
+shown h (Register r) x = line 82 r ++ coefficients 0 (element (h .rank) r x)
+shown h (Pairing a b) x = line 80 (pairing ℕ words (h .q) (h .rank) (element (h .rank) a x) (element (h .rank) b x))
+shown h (Equality a b) x = line 81 (bit (equal (element (h .rank) a x) (element (h .rank) b x)))
 
-unfoldable pub texts : ℕ → ℕ → List Command → State → List ℕ
-texts m q [] x = []
-texts m q (c ∷ cs) x = text m q c x ++ texts m q cs (after m q c x)
+unfoldable pub text : Header → Command → State → List ℕ
+text h End x = line 78 (x .count)
+text h (Begin b) x = taggedPair 72 (b .rank) (b .q)
+text h (Change u) x = []
+text h (Show w) x = shown h w (x .contents)
+
+unfoldable pub texts : Header → List Command → State → List ℕ
+texts h [] x = []
+texts h (c ∷ cs) x = text h c x ++ texts h cs (after h c x)
 
 abbrev pub refusalText : Refusal → List ℕ
 refusalText why = taggedPair 69 (refusalNumber why) (refusalPlace why)
 
 abbrev pub printedFor : Verdict → List ℕ → List ℕ
-printedFor Accepted s = texts (rank s) (parameter s) (commands (placed s)) start
+printedFor Accepted s = texts (header s) (commands (placed s)) start
 printedFor (Refused why) s = refusalText why
 
 unfoldable pub printed : List ℕ → List ℕ
@@ -62,9 +70,18 @@ printed s = printedFor (checkSheet s) s
 unfoldable pub front : List ℕ → List ℕ → Outcome ℕ (List ℕ)
 front t buffer = record { answer = length t; lent = overwrite 0 t buffer }
 
-unfoldable pub textCall : ℕ → ℕ → Command → List ℕ → ℕ → List ℕ → Outcome ℕ (List ℕ)
-textCall m q c x n buffer =
-    front (cond (not (less (length buffer) textRoom) && same (length x) 2880 && inRange m c) (text m q c (record { contents = x; count = n })) []) buffer
+unfoldable pub inRangeText : Header → Command → State → List ℕ
+inRangeText h c x = cond (inRange (h .rank) c) (text h c x) []
+
+abbrev pub textOf : Header → Decoded → State → List ℕ
+textOf h (Found c next) x = inRangeText h c x
+textOf h NoCommand x = []
+textOf h Short x = []
+textOf h Nothing x = []
+
+unfoldable pub textCall : List ℕ → List ℕ → Header → Cursor → List ℕ → Outcome ℕ (List ℕ)
+textCall s x h k buffer =
+    front (cond (not (less (length buffer) textRoom) && same (length x) 2880) (textOf h (decode s (k .at)) (state k x)) []) buffer
 
 unfoldable pub errorCall : Refusal → List ℕ → Outcome ℕ (List ℕ)
 errorCall why buffer = front (cond (less (length buffer) errorRoom) [] (refusalText why)) buffer

@@ -2,18 +2,19 @@
 
 ghost use mathlib.Core.Path.{_≡_};
 ghost use mathlib.Core.Bool.{true};
-ghost use mathlib.Core.List.{_++_};
-ghost use Prim.Native.Nat.{ℕ, _<_};
-ghost use Rattle.ring.specs.Modular.{words};
-ghost use Rattle.lists.specs.Lists.{bit, equal};
-ghost use Rattle.algebra.specs.Pairing.{pairing};
-ghost use Rattle.sheet.specs.Check.{inRange};
-ghost use Rattle.machine.specs.Registers.{element};
-ghost use Rattle.output.specs.Text.{line, coefficients};
-ghost use Rattle.output.specs.Printed.{text, textCall, errorCall};
+ghost use Prim.Native.Nat.{_≤_, _<_};
+ghost use lib.ListN.{length};
+ghost use Rattle.sheet_format.specs.declared.Query.the-variants.{Register, Pairing, Equality};
+ghost use Rattle.sheet.specs.Check.{queryInRange, inRange};
+ghost use Rattle.output.specs.Text.{textRoom};
+ghost use Rattle.output.specs.Printed.{shown, text, inRangeText, textCall, errorCall};
 ghost use Rattle.output.specs.Steps.{Overwritten, Shown};
 use refusals::Refusal;
+use runner::Cursor;
 use sheet_format::Command;
+use sheet_format::Decoded;
+use sheet_format::Header;
+use sheet_format::Query;
 
 mod lines;
 mod pairs;
@@ -25,66 +26,86 @@ pub const ROOM: usize = 18004;
 pub const ERROR_ROOM: usize = 26;
 
 // A register's line, and a line for each of its nonzero coefficients.
-fn put_register(buffer: &mut [u8], x: &[u64], m: usize, r: usize) -> usize
-    requires { ⌜ Shown m (now x) (now buffer) × (r < 4) ⌝ }
-    ensures { λ n. ⌜ Overwritten 0 (line 82 r ++ coefficients 0 (element m r (now (x .entry)))) (now (buffer .entry)) (now (buffer .exit)) n ⌝ }
+fn put_register(buffer: &mut [u8], x: &[u64], header: Header, r: usize) -> usize
+    requires { ⌜ Shown (header .rank) (now x) (now buffer) × (r < 4) ⌝ }
+    ensures { λ n. ⌜ Overwritten 0 (shown header (Register r) (now (x .entry))) (now (buffer .entry)) (now (buffer .exit)) n ⌝ }
 {
     let at = lines::put_line(buffer, 82, r as u64);
     let from = 720 * r;
-    let to = from + ranks::size(m);
+    let to = from + ranks::size(header.rank);
     lines::put_coefficients(buffer, at, &x[from..to])
 }
 
-fn put_pairing(buffer: &mut [u8], x: &[u64], m: usize, q: u64, a: usize, b: usize) -> usize
-    requires { ⌜ Shown m (now x) (now buffer) × (a < 4) × (b < 4) ⌝ }
-    ensures { λ n. ⌜ Overwritten 0 (line 80 (pairing ℕ words q m (element m a (now (x .entry))) (element m b (now (x .entry)))))
-        (now (buffer .entry)) (now (buffer .exit)) n ⌝ }
+fn put_pairing(buffer: &mut [u8], x: &[u64], header: Header, a: usize, b: usize) -> usize
+    requires { ⌜ Shown (header .rank) (now x) (now buffer) × (a < 4) × (b < 4) ⌝ }
+    ensures { λ n. ⌜ Overwritten 0 (shown header (Pairing a b) (now (x .entry))) (now (buffer .entry)) (now (buffer .exit)) n ⌝ }
 {
-    let size = ranks::size(m);
+    let size = ranks::size(header.rank);
     let left = 720 * a;
     let right = 720 * b;
-    let value = pairs::pairing(&x[left..left + size], &x[right..right + size], m, q);
+    let value = pairs::pairing(
+        &x[left..left + size],
+        &x[right..right + size],
+        header.rank,
+        header.q,
+    );
     lines::put_line(buffer, 80, value)
 }
 
-fn put_equality(buffer: &mut [u8], x: &[u64], m: usize, a: usize, b: usize) -> usize
-    requires { ⌜ Shown m (now x) (now buffer) × (a < 4) × (b < 4) ⌝ }
-    ensures { λ n. ⌜ Overwritten 0 (line 81 (bit (equal (element m a (now (x .entry))) (element m b (now (x .entry))))))
-        (now (buffer .entry)) (now (buffer .exit)) n ⌝ }
+fn put_equality(buffer: &mut [u8], x: &[u64], header: Header, a: usize, b: usize) -> usize
+    requires { ⌜ Shown (header .rank) (now x) (now buffer) × (a < 4) × (b < 4) ⌝ }
+    ensures { λ n. ⌜ Overwritten 0 (shown header (Equality a b) (now (x .entry))) (now (buffer .entry)) (now (buffer .exit)) n ⌝ }
 {
-    let size = ranks::size(m);
+    let size = ranks::size(header.rank);
     let left = 720 * a;
     let right = 720 * b;
     let same = pairs::equal(&x[left..left + size], &x[right..right + size]);
     lines::put_line(buffer, 81, same as u64)
 }
 
-// What a command in range prints.
-fn put_text(buffer: &mut [u8], x: &[u64], count: u64, m: usize, q: u64, command: Command) -> usize
-    requires { ⌜ Shown m (now x) (now buffer) × (inRange m command ≡ true) ⌝ }
-    ensures { λ n. ⌜ Overwritten 0 (text m q command (record { contents = now (x .entry); count = count })) (now (buffer .entry)) (now (buffer .exit)) n ⌝ }
+// What a query in range shows.
+fn put_shown(buffer: &mut [u8], x: &[u64], header: Header, query: Query) -> usize
+    requires { ⌜ Shown (header .rank) (now x) (now buffer) × (queryInRange query ≡ true) ⌝ }
+    ensures { λ n. ⌜ Overwritten 0 (shown header query (now (x .entry))) (now (buffer .entry)) (now (buffer .exit)) n ⌝ }
 {
-    match command {
-        Command::End => lines::put_line(buffer, 78, count),
-        Command::Begin(rank, p) => lines::put_tagged_pair(buffer, 72, rank as u64, p),
-        Command::Unit(_) => 0,
-        Command::Set(_, _, _) => 0,
-        Command::Letter(_, _) => 0,
-        Command::Product(_, _, _) => 0,
-        Command::Sum(_, _, _) => 0,
-        Command::Scale(_, _) => 0,
-        Command::Show(r) => put_register(buffer, x, m, r),
-        Command::Pair(a, b) => put_pairing(buffer, x, m, q, a, b),
-        Command::Equal(a, b) => put_equality(buffer, x, m, a, b),
+    match query {
+        Query::Register(r) => put_register(buffer, x, header, r),
+        Query::Pairing(a, b) => put_pairing(buffer, x, header, a, b),
+        Query::Equality(a, b) => put_equality(buffer, x, header, a, b),
     }
 }
 
-// What a command prints, in a sheet of rank m with the word q, at the front of a lent buffer of 18,004 bytes or more: x holds the
-// registers before it, and count the ring operations so far. The answer is the size of the text. Nothing is written where the
-// buffer is shorter, x is not 4 x 720 words or an operand is out of range.
+// What a command in range prints.
+fn put_text(buffer: &mut [u8], x: &[u64], header: Header, count: u64, command: Command) -> usize
+    requires { ⌜ Shown (header .rank) (now x) (now buffer) × (inRange (header .rank) command ≡ true) ⌝ }
+    ensures { λ n. ⌜ Overwritten 0 (text header command (record { contents = now (x .entry); count = count })) (now (buffer .entry)) (now (buffer .exit)) n ⌝ }
+{
+    match command {
+        Command::End => lines::put_line(buffer, 78, count),
+        Command::Begin(begun) => lines::put_tagged_pair(buffer, 72, begun.rank as u64, begun.q),
+        Command::Change(_) => 0,
+        Command::Show(query) => put_shown(buffer, x, header, query),
+    }
+}
+
+// What a command prints, if it is in range.
+fn put_found(buffer: &mut [u8], x: &[u64], header: Header, count: u64, command: Command) -> usize
+    requires { ⌜ (length (now x) ≡ 2880) × (textRoom ≤ length (now buffer)) ⌝ }
+    ensures { λ n. ⌜ Overwritten 0 (inRangeText header command (record { contents = now (x .entry); count = count }))
+        (now (buffer .entry)) (now (buffer .exit)) n ⌝ }
+{
+    if !sheet::in_range(header.rank, command) {
+        return 0;
+    }
+    put_text(buffer, x, header, count, command)
+}
+
+// What the next command of a sheet prints, at the front of a lent buffer of 18,004 bytes or more: the command stands at the cursor, and x
+// holds the registers before it. The answer is the size of the text. Nothing is written where the buffer is shorter, x is not 4 x 720
+// words, or no command in range stands there.
 // Example: the end of a sheet after 6 ring operations prints N 6 and a newline, 4 bytes.
-pub fn text(m: usize, q: u64, command: Command, x: &[u64], count: u64, buffer: &mut [u8]) -> usize
-    ensures { λ n. ⌜ textCall m q command (now (x .entry)) count (now (buffer .entry)) ≡ record { answer = n; lent = now (buffer .exit) } ⌝ }
+pub fn text(sheet: &[u8], x: &[u64], buffer: &mut [u8], header: Header, cursor: Cursor) -> usize
+    ensures { λ n. ⌜ textCall (now (sheet .entry)) (now (x .entry)) header cursor (now (buffer .entry)) ≡ record { answer = n; lent = now (buffer .exit) } ⌝ }
 {
     if buffer.len() < ROOM {
         return 0;
@@ -92,10 +113,13 @@ pub fn text(m: usize, q: u64, command: Command, x: &[u64], count: u64, buffer: &
     if x.len() != 2880 {
         return 0;
     }
-    if !sheet::in_range(m, command) {
-        return 0;
+    let found = sheet_format::read(sheet, cursor.at);
+    match found {
+        Decoded::Found(command, _) => put_found(buffer, x, header, cursor.count, command),
+        Decoded::NoCommand => 0,
+        Decoded::Short => 0,
+        Decoded::Nothing => 0,
     }
-    put_text(buffer, x, count, m, q, command)
 }
 
 // The line of a refused sheet, at the front of a lent buffer of 26 bytes or more. The answer is its size. Nothing is written where

@@ -1,7 +1,6 @@
 -- A turn at a cursor that a run of an accepted sheet comes to: the command there is obeyed, since the count stays a word. Rests on Ahead, Beginning, Puts,
 -- sheet's Accepted and machine's Costs.
 --
---   state k x             the state at a cursor
 --   Along s h k x         a run of the sheet s with the header h comes to the cursor k, with the registers x
 --   Goes s h k x next y   the turn there goes on with the cursor next and the registers y
 --   Ends s h k x y        it is the last, and leaves the registers y
@@ -27,8 +26,8 @@ use Rattle.sheet.proofs.CheckFrom.{checkFrom}
 use Rattle.sheet.proofs.Accepted.{Next, accepted-start, accepted-next}
 use Rattle.machine.specs.Step.{obey, cost}
 use Rattle.machine.proofs.Costs.{cost-small}
-use Rattle.runner.specs.Run.{State, after}
-use Rattle.runner.specs.Turn.{beginCall, fits, obeys, moved, onward, turnCall, ahead}
+use Rattle.runner.specs.Run.{after}
+use Rattle.runner.specs.Turn.{state, beginCall, fits, obeys, moved, onward, turnCall, ahead}
 use Rattle.runner.specs.declared.Cursor.{Cursor}
 use Rattle.runner.specs.declared.Begun.the-variants.{Ready}
 use Rattle.runner.specs.declared.Turned.{Turned}
@@ -36,9 +35,6 @@ use Rattle.runner.specs.declared.Turned.the-variants.{On}
 use Rattle.runner.proofs.Ahead.{ahead-last, ahead-next}
 use Rattle.runner.proofs.Beginning.{begun-ready}
 use Rattle.runner.proofs.Puts.{obey-size}
-
-abbrev pub state : Cursor → List ℕ → State
-state k x = record { contents = x; count = k .count }
 
 pub record Along (s : List ℕ) (h : Header) (k : Cursor) (x : List ℕ) : Type 0 where
   pub header-is : h ≡ header s

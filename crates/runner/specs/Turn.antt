@@ -1,5 +1,6 @@
 -- One command of a sheet: where a run begins, and what a turn of it does.
 --
+--   state k x             the state at the cursor k, with the registers x
 --   first                 the cursor of a run that has obeyed nothing
 --   begunFor v s          how a run of the sheet s with the verdict v begins
 --   beginCall s           how a run of the sheet s begins: with its header and the first cursor, or with its refusal
@@ -27,11 +28,15 @@ use Rattle.sheet_format.specs.declared.Decoded.{Decoded}
 use Rattle.sheet_format.specs.declared.Decoded.the-variants.{Found, NoCommand, Short, Nothing}
 use Rattle.sheet.specs.Check.{isEnd, inRange, placedFrom, commands, checkSheet}
 use Rattle.machine.specs.Step.{obey, cost}
+use Rattle.runner.specs.Run.{State}
 use Rattle.runner.specs.declared.Cursor.{Cursor}
 use Rattle.runner.specs.declared.Begun.{Begun}
 use Rattle.runner.specs.declared.Begun.the-variants.{Ready, Failed}
 use Rattle.runner.specs.declared.Turned.{Turned}
 use Rattle.runner.specs.declared.Turned.the-variants.{On, Ended, NotObeyed}
+
+abbrev pub state : Cursor → List ℕ → State
+state k x = record { contents = x; count = k .count }
 
 abbrev pub first : Cursor
 first = record { at = 0; count = 0 }

@@ -5,6 +5,7 @@ use borrow.Author.Needs.{needs}
 use mir.Val.{boolByte}
 use Rattle.lists.proofs.Test.{byte-bit}
 use Rattle.machine.proofs.Put.{lent-is}
+use Rattle.output.specs.Printed.{shown}
 use Rattle.output.proofs.LineLengths.{bit-small, line-short}
 use Rattle.output.proofs.Lent.{held, few}
 use Rattle.output.proofs.put_equality.Statement.{statement}
@@ -30,6 +31,7 @@ put-line-requires c κs =
     le-trans (line-short _ (boolByte b) (omega (arith, byte-bit b, bit-small b))) (omega (arith, s0 .pre .0 .large))
 
 returns : tie.Need-returns
+unfolding shown
 returns c =
     let put = c .before .before in
     let sized = size (compared put) in

@@ -3,6 +3,7 @@ use native.Mathlib.Nat.{le-trans}
 use native.Mathlib.Omega.{arith}
 use borrow.Author.Needs.{needs}
 use Rattle.machine.proofs.Put.{lent-is, lent-size}
+use Rattle.output.specs.Printed.{shown}
 use Rattle.output.proofs.LineLengths.{line-short}
 use Rattle.output.proofs.Lent.{held, few}
 use Rattle.output.proofs.put_pairing.Statement.{statement}
@@ -33,6 +34,7 @@ put-line-requires c κs =
     le-trans (line-short _ _ (omega arith)) (omega (arith, start (size (c .before)) .pre .0 .large))
 
 returns : tie.Need-returns
+unfolding shown
 returns c =
     let put = c .before .before in
     let sized = size (paired put) in

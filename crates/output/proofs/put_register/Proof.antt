@@ -4,6 +4,7 @@ use native.Mathlib.Nat.{le-trans, zero-add}
 use native.Mathlib.Omega.{arith}
 use borrow.Author.Needs.{needs}
 use Rattle.machine.proofs.Put.{lent-is}
+use Rattle.output.specs.Printed.{shown}
 use Rattle.output.proofs.LineLengths.{digit-line, line-short}
 use Rattle.output.proofs.Overwritten.{overwritten-more}
 use Rattle.output.proofs.Lent.{held, few, lent-few}
@@ -36,6 +37,7 @@ put-coefficients-requires c κs =
     (most, omega (arith, most, four, s0 .pre .0 .large))
 
 returns : tie.Need-returns
+unfolding shown
 returns c =
     let shown = c .before .before in
     let sized = size shown in
