@@ -19,7 +19,8 @@ use Rattle.sheet_format.specs.declared.Query.the-variants.{Register, Pairing, E
 use Rattle.sheet_format.specs.declared.Command.{Command}
 use Rattle.sheet_format.specs.declared.Command.the-variants.{End, Begin, Change, Show}
 use Rattle.sheet.specs.Check.{inRange}
-use Rattle.sheet.proofs.InRange.{QueryWithin, low, within}
+use Rattle.sheet.specs.Bounds.{QueryBounds}
+use Rattle.sheet.proofs.InRange.{low, within}
 use Rattle.machine.specs.Registers.{element}
 use Rattle.machine.specs.Steps.{Registers}
 use Rattle.machine.proofs.Put.{small, words-element}
@@ -50,7 +51,7 @@ module _ (h : Header) {x : List ℕ} (z : Registers (h .rank) (factorial (suc (h
   abbrev at : ℕ → List ℕ
   at r = element (h .rank) r x
 
-  shown-short : (w : Query) → QueryWithin w → length (shown h w x) ≤ textRoom
+  shown-short : (w : Query) → QueryBounds w → length (shown h w x) ≤ textRoom
   unfolding shown
   shown-short (Register r) four = simp length-append (omega (arith, digit-line 82 r (omega arith), show-short z four a))
   shown-short (Pairing g k) w =

@@ -4,8 +4,9 @@ ghost use mathlib.Core.Path.{_≡_};
 ghost use mathlib.Core.Bool.{true};
 ghost use Prim.Native.Nat.{_≤_, _<_};
 ghost use lib.ListN.{length};
+ghost use Rattle.sheet_format.specs.declared.Command.the-variants.{Show};
 ghost use Rattle.sheet_format.specs.declared.Query.the-variants.{Register, Pairing, Equality};
-ghost use Rattle.sheet.specs.Check.{queryInRange, inRange};
+ghost use Rattle.sheet.specs.Check.{inRange};
 ghost use Rattle.output.specs.Text.{textRoom};
 ghost use Rattle.output.specs.Printed.{shown, text, inRangeText, textCall, errorCall};
 ghost use Rattle.output.specs.Steps.{Overwritten, Shown};
@@ -65,7 +66,7 @@ fn put_equality(buffer: &mut [u8], x: &[u64], header: Header, a: usize, b: usize
 
 // What a query in range shows.
 fn put_shown(buffer: &mut [u8], x: &[u64], header: Header, query: Query) -> usize
-    requires { ⌜ Shown (header .rank) (now x) (now buffer) × (queryInRange query ≡ true) ⌝ }
+    requires { ⌜ Shown (header .rank) (now x) (now buffer) × (inRange (header .rank) (Show query) ≡ true) ⌝ }
     ensures { λ n. ⌜ Overwritten 0 (shown header query (now (x .entry))) (now (buffer .entry)) (now (buffer .exit)) n ⌝ }
 {
     match query {

@@ -24,7 +24,8 @@ use Rattle.sheet_format.specs.declared.Update.the-variants.{Unit, Set, Letter, 
 use Rattle.sheet_format.specs.declared.Command.{Command}
 use Rattle.sheet_format.specs.declared.Command.the-variants.{End, Begin, Change, Show}
 use Rattle.sheet.specs.Check.{inRange}
-use Rattle.sheet.proofs.InRange.{UpdateWithin, Within, low, within}
+use Rattle.sheet.specs.Bounds.{UpdateBounds, Bounds}
+use Rattle.sheet.proofs.InRange.{low, within}
 use Rattle.machine.specs.Registers.{element, put, zeros}
 use Rattle.machine.specs.Step.{updated, obey}
 use Rattle.machine.proofs.Put.{element-size}
@@ -42,7 +43,7 @@ module _ (h : Header) (c : Command) (range : inRange (h .rank) c ≡ true) where
     sized : (r : ℕ) → r < 4 → length (element m r x) ≡ M
     sized r l = element-size {size = M} (record { low = low m c range; whole = refl; four = four x k }) l
 
-    updates : (u : Update) → UpdateWithin m u → P (updated h u x)
+    updates : (u : Update) → UpdateBounds m u → P (updated h u x)
     unfolding updated unit
     updates (Unit r) w = putting x r _ w (basis-length ℕ words m (identity m)) k
     updates (Set r i v) w = putting x r _ (w .0) (length-set (element m r x) i v ∙ sized r (w .0)) k
@@ -58,7 +59,7 @@ module _ (h : Header) (c : Command) (range : inRange (h .rank) c ≡ true) where
     unfolding obey zeros
     puts-obey = go c (within m c range refl)
       where
-        go : (c : Command) → Within m c → P (obey h c x)
+        go : (c : Command) → Bounds m c → P (obey h c x)
         go End w = k
         go (Begin n) w = let e = length-replicate {A = ℕ} M 0 in
             putting _ 3 _ (omega arith) e (putting _ 2 _ (omega arith) e (putting _ 1 _ (omega arith) e (putting x 0 _ (omega arith) e k)))

@@ -19,7 +19,7 @@ use Rattle.sheet_format.specs.declared.Decoded.the-variants.{Found}
 use Rattle.sheet_format.proofs.Offsets.{found-within}
 use Rattle.sheet.specs.Check.{isEnd, inRange, checkSheet}
 use Rattle.sheet.proofs.CheckFrom.{checkFrom, from-start, stands}
-use Rattle.sheet.proofs.Cases.{Kind, nothing, unknown, short, disordered, outside, end, on, kind?, order-fails, range-fails, good-on, good-end}
+use Rattle.sheet.proofs.Cases.{Kind, nothing, unknown, short, disordered, outside, end, on, kind?, order-fails, range-fails, taken-on, taken-end}
 
 refused : {why : Refusal} → Refused why ≡ Accepted → ⊥
 refused e = let z : _≡_ {A = ℕ} 0 1 = cc in omega arith
@@ -40,13 +40,13 @@ accepted-next s at a = go (kind? s at)
     go (nothing d) = absurd (refused (sym (stands s at d) ∙ a))
     go (unknown d) = absurd (refused (sym (stands s at d) ∙ a))
     go (short d) = absurd (refused (sym (stands s at d) ∙ a))
-    go (disordered x) = absurd (refused (sym (order-fails s at x) ∙ a))
-    go (outside x) = absurd (refused (sym (range-fails s at x) ∙ a))
-    go (end after g) =
-        let past = less-false after (length s) (accepts-unless (less after (length s)) (Ending after) (sym (good-end s at g) ∙ a)) in
-        let w = found-within s at (g .stands) in
-        record { command = End; after = after; stands = g .stands; range = g .range; rest = inl (refl, omega arith) }
-    go (on c after g e) = record { command = c; after = after; stands = g .stands; range = g .range; rest = inr (e, sym (good-on s at g e) ∙ a) }
+    go (disordered c after d o) = absurd (refused (sym (order-fails s at d o) ∙ a))
+    go (outside c after d o r) = absurd (refused (sym (range-fails s at d o r) ∙ a))
+    go (end after t) =
+        let past = less-false after (length s) (accepts-unless (less after (length s)) (Ending after) (sym (taken-end s at t refl) ∙ a)) in
+        let w = found-within s at (t .stands) in
+        record { command = End; after = after; stands = t .stands; range = t .range; rest = inl (refl, omega arith) }
+    go (on c after t e) = record { command = c; after = after; stands = t .stands; range = t .range; rest = inr (e, sym (taken-on s at t e) ∙ a) }
 
 -- ---- a whole sheet
 

@@ -1,7 +1,10 @@
 mod Tests
+mod InOrder
 pub mod InRange
 pub mod Limit
 pub mod CheckFrom
 pub mod Cases
+mod Begun
 pub mod Accepted
+mod Reached
 pub mod Table

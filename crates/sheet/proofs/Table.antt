@@ -1,28 +1,29 @@
--- A sheet is refused exactly where document 01's table says so, with a place of at most 4,096. Rests on Cases and Accepted.
-use mathlib.Core.Path.{_≡_, refl, ap, subst, _∙_}
+-- A sheet is refused exactly where document 01's table says so, with a place of at most 4,096. Rests on Cases, Begun and Reached.
+use mathlib.Core.Path.{_≡_, refl, subst, _∙_}
 use mathlib.Core.Logic.{inl, inr, ⊎-elim}
-use mathlib.Core.Bool.{false}
-use mathlib.Core.List.{List, [], _∷_, _++_}
+use mathlib.Core.List.{List, []}
 use Prim.Native.Nat.{ℕ, zero, suc, _-_, _≤_, _<_}
 use native.Mathlib.Nat.{le-refl}
 use native.Mathlib.Omega.{arith}
 use lib.ListN.{length}
+use Rattle.lists.specs.Lists.{less}
 use Rattle.lists.proofs.Test.{LessView, lt, ge, less?, less-yes, less-no}
-use Rattle.refusals.specs.Refusals.{refusalPlace}
+use Rattle.refusals.specs.Refusals.{refusalPlace, unless}
 use Rattle.refusals.specs.declared.Refusal.{Refusal}
 use Rattle.refusals.specs.declared.Refusal.the-variants.{Rank, Size, Scratch, Word, Letter, Length, Image, Entry, Buffer, Bytes, Unknown, CutOff, Order, Range, Ending}
 use Rattle.refusals.specs.declared.Verdict.{Verdict}
 use Rattle.refusals.specs.declared.Verdict.the-variants.{Accepted, Refused}
 use Rattle.refusals.proofs.Verdicts.{Near}
 use Rattle.refusals.proofs.Ended.{refuses-verdict}
-use Rattle.sheet_format.specs.declared.Command.{Command}
 use Rattle.sheet_format.specs.declared.Command.the-variants.{End}
 use Rattle.sheet_format.proofs.Offsets.{found-within, past-end, nothing-past}
-use Rattle.sheet.specs.Check.{isEnd, checkSheet}
-use Rattle.sheet.specs.Table.{Good, Link, Leads, Reached, Ended, Says, Passes, Exactly}
+use Rattle.sheet.specs.Check.{checkSheet}
+use Rattle.sheet.specs.Table.{Good, Reached, Ended, Says, Passes, Exactly}
 use Rattle.sheet.proofs.CheckFrom.{checkFrom, stands}
-use Rattle.sheet.proofs.Cases.{Kind, nothing, unknown, short, disordered, outside, end, on, kind?, order-fails, range-fails, good-on, good-end}
+use Rattle.sheet.proofs.Cases.{Kind, nothing, unknown, short, disordered, outside, end, on, kind?, order-fails, range-fails, taken-on, taken-end}
+use Rattle.sheet.proofs.Begun.{ends-not, good, out-of-order, out-of-range, order-refused, range-refused}
 use Rattle.sheet.proofs.Accepted.{sized, missized, size?}
+use Rattle.sheet.proofs.Reached.{reached, reached-on, end-checked}
 
 -- ---- the table says what the check finds
 
@@ -34,18 +35,6 @@ near : (s : List ℕ) (v : Verdict) → Holds s v → Near v
 near s Accepted h = omega arith
 near s (Refused why) h = h .1
 
-module _ {s : List ℕ} {at : ℕ} {c : Command} {after : ℕ} (g : Good s at c after) (e : isEnd c ≡ false) where
-  link : Link
-  link = record { command = c; after = after }
-
-  leads-on : (from : ℕ) (ls : List Link) → Leads s from ls at → Leads s from (ls ++ (link ∷ [])) after
-  unfolding link
-  leads-on from [] h = (rw h g, e, refl)
-  leads-on from (l ∷ ls) h = (h .0, h .1, leads-on (l .after) ls (h .2))
-
-  reached-on : Reached s at → Reached s after
-  reached-on r = record { least = r .least; most = r .most; links = r .links ++ (link ∷ []); leads = leads-on 0 (r .links) (r .leads) }
-
 found-from : (k : ℕ) (s : List ℕ) (at : ℕ) → length s - at < k → at ≤ length s → Reached s at → Holds s (checkFrom s at)
 found-from zero s at h m r = absurd (omega arith)
 found-from (suc k) s at h m r = go (kind? s at) (found-from k s)
@@ -53,20 +42,21 @@ found-from (suc k) s at h m r = go (kind? s at) (found-from k s)
     place : at ≤ 4096
     place = omega (arith, r .most)
 
-    ended : (after : ℕ) → Good s at End after → LessView after (length s) → Holds s (checkFrom s at)
-    ended after g (lt l e) = rw (good-end s at g, e) (inr (record { at = at; reached = r; good = g }, l), omega (arith, r .most))
-    ended after g (ge l e) = let w = found-within s at (g .stands) in
-        rw (good-end s at g, e) (subst (Ended s) (omega arith) (record { at = at; reached = r; good = g }))
+    ended : (after : ℕ) → Good s at End after → checkFrom s at ≡ unless (less after (length s)) (Ending after) → LessView after (length s)
+        → Holds s (checkFrom s at)
+    ended after g f (lt l e) = rw (f, e) (inr (record { at = at; reached = r; good = g }, l), omega (arith, r .most))
+    ended after g f (ge l e) = let w = found-within s at (g .stands) in
+        rw (f, e) (subst (Ended s) (omega arith) (record { at = at; reached = r; good = g }))
 
     go : Kind s at → ((after : ℕ) → length s - after < k → after ≤ length s → Reached s after → Holds s (checkFrom s after)) → Holds s (checkFrom s at)
     go (nothing d) ih = let past = nothing-past s at d in rw (stands s at d) (inl (r, omega arith), place)
     go (unknown d) ih = rw (stands s at d) ((r, d), place)
     go (short d) ih = rw (stands s at d) ((r, d), place)
-    go (disordered x) ih = rw (order-fails s at x) ((r, x), place)
-    go (outside x) ih = rw (range-fails s at x) ((r, x), place)
-    go (end after g) ih = ended after g (less? after (length s))
-    go (on c after g e) ih = let w = found-within s at (g .stands) in
-        rw (good-on s at g e) (ih after (omega arith) (w .1) (reached-on g e r))
+    go (disordered c after d o) ih = rw (order-fails s at d o) ((r, out-of-order d o), place)
+    go (outside c after d o x) ih = rw (range-fails s at d o x) ((r, out-of-range d o x (reached r .1)), place)
+    go (end after t) ih = ended after (good t) (taken-end s at t refl) (less? after (length s))
+    go (on c after t e) ih = let w = found-within s at (t .stands) in
+        rw (taken-on s at t e) (ih after (omega arith) (w .1) (reached-on (good t) (ends-not c e) r))
 
 found : (s : List ℕ) → Holds s (checkSheet s)
 found s = ⊎-elim (λ h. rw (missized s h) (h, omega arith))
@@ -75,13 +65,6 @@ found s = ⊎-elim (λ h. rw (missized s h) (h, omega arith))
     (size? s)
 
 -- ---- the check finds what the table says
-
-led : (s : List ℕ) (at to : ℕ) (ls : List Link) → Leads s at ls to → checkFrom s at ≡ checkFrom s to
-led s at to [] h = ap (checkFrom s) h
-led s at to (l ∷ ls) h = good-on s at (h .0) (h .1) ∙ led s (l .after) to ls (h .2)
-
-reached : {s : List ℕ} {at : ℕ} → Reached s at → checkSheet s ≡ checkFrom s at
-reached {s} {at} r = sized s (r .least) (r .most) ∙ led s 0 at (r .links) (r .leads)
 
 says : (s : List ℕ) (why : Refusal) → Says s why → checkSheet s ≡ Refused why
 says s Rank h = absurd h
@@ -94,15 +77,15 @@ says s (Image i) h = absurd h
 says s (Entry i) h = absurd h
 says s Buffer h = absurd h
 says s Bytes h = missized s h
-says s (Unknown at) h = reached (h .0) ∙ stands s at (h .1)
-says s (CutOff at) h = reached (h .0) ∙ stands s at (h .1)
-says s (Order at) h = reached (h .0) ∙ order-fails s at (h .1)
-says s (Range at) h = reached (h .0) ∙ range-fails s at (h .1)
-says s (Ending at) (inl h) = reached (h .0) ∙ stands s at (past-end s at (omega (arith, h .1)))
-says s (Ending at) (inr h) = let e = h .0 in reached (e .reached) ∙ good-end s (e .at) (e .good) ∙ rw (less-yes (h .1)) refl
+says s (Unknown at) h = reached (h .0) .0 ∙ stands s at (h .1)
+says s (CutOff at) h = reached (h .0) .0 ∙ stands s at (h .1)
+says s (Order at) h = reached (h .0) .0 ∙ order-refused s at (h .1)
+says s (Range at) h = reached (h .0) .0 ∙ range-refused s at (h .1)
+says s (Ending at) (inl h) = reached (h .0) .0 ∙ stands s at (past-end s at (omega (arith, h .1)))
+says s (Ending at) (inr h) = end-checked (h .0) ∙ rw (less-yes (h .1)) refl
 
 passes : (s : List ℕ) → Passes s → checkSheet s ≡ Accepted
-passes s e = reached (e .reached) ∙ good-end s (e .at) (e .good) ∙ rw (less-no (le-refl (length s))) refl
+passes s e = end-checked e ∙ rw (less-no (le-refl (length s))) refl
 
 pub exactly : (s : List ℕ) → Exactly s
 exactly s = record {

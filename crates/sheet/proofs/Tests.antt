@@ -1,10 +1,10 @@
--- Tests in a row, and the code's comparisons as the specification writes them. Rests on lists' Test.
+-- Tests in a row, tests that decide a fact, and the code's comparisons as the specification writes them. Rests on lists' Test.
 use mathlib.Core.Path.{_≡_, refl, sym, ap, _∙_}
 use mathlib.Core.Bool.{Bool, true, false, not, _&&_, _||_}
-use Prim.Native.Nat.{ℕ, suc}
+use Prim.Native.Nat.{ℕ, suc, _≤_, _<_}
 use native.Mathlib.Omega.{arith}
-use lib.Dec.{eqb, leb, leb·suc-suc}
-use Rattle.lists.specs.Lists.{same, less}
+use lib.Dec.{leb, leb·suc-suc}
+use Rattle.lists.specs.Lists.{less, bit}
 use Rattle.lists.proofs.Test.{LessView, lt, ge, less?, less-yes, less-no}
 
 pub and-on : {a : Bool} (b : Bool) → a ≡ true → b ≡ (a && b)
@@ -19,9 +19,22 @@ or-on b e = rw e refl
 pub or-off : {a : Bool} (b : Bool) → a ≡ false → b ≡ (a || b)
 or-off b e = rw e refl
 
-pub same-test : {x y : ℕ} (a : ℕ) → x ≡ y → eqb x a ≡ same y a
-unfolding same
-same-test a e = ap (λ x. eqb x a) e
+pub above : {m k : ℕ} (b : Bool) → k < m → false ≡ (not (less k m) && b)
+above b h = rw (less-yes h) refl
+
+pub up-to : {m k : ℕ} {a b : Bool} → m ≤ k → a ≡ b → a ≡ (not (less k m) && b)
+up-to h e = rw (less-no h) e
+
+-- a test that decides P, where P does not hold
+pub fails : {P : Type 0} {b : Bool} → (b ≡ true → P) → (P → ⊥) → b ≡ false
+fails {P} {b} says refuted = go b refl
+  where
+    go : (t : Bool) → b ≡ t → b ≡ false
+    go true e = absurd (refuted (says e))
+    go false e = e
+
+pub fails-not : {P : Type 0} {b : Bool} → (P → b ≡ true) → b ≡ false → P → ⊥
+fails-not passes e p = let z = ap bit (sym e ∙ passes p) in omega arith
 
 pub not-less : (x a : ℕ) → leb x a ≡ not (less a x)
 unfolding less

@@ -1,6 +1,6 @@
--- When a sheet is refused, as document 01's table says it, without the order in which a check goes.
+-- When a sheet is refused, as document 01's table says it, without the order in which a check goes and without its tests.
 --
---   Good s at c after         the command c stands at an offset of the sheet s, in order and in range, and the offset after it
+--   Good s at c after         the command c stands at an offset of the sheet s, in order and within its bounds, and the offset after it
 --   Link                      a command, and the offset after it
 --   Leads s at ls to          good commands, none of them the end, lead from one offset to another
 --   Reached s at              in a sheet of 1 to 4,096 bytes, they lead there from offset 0
@@ -12,9 +12,8 @@
 --   Exactly s                 a sheet is refused exactly where the table says so, and accepted exactly where it passes; a refusal counts 0, and its
 --                             place is at most 4,096
 use mathlib.Core.Path.{_≡_}
-use mathlib.Core.Bool.{true, false}
 use mathlib.Core.List.{List, [], _∷_}
-use mathlib.Core.Logic.{_⊎_}
+use mathlib.Core.Logic.{_⊎_, _≢_}
 use Prim.Native.Nat.{ℕ, _≤_, _<_}
 use lib.ListN.{length}
 use Rattle.refusals.specs.Refusals.{verdictReport, Refuses}
@@ -25,12 +24,13 @@ use Rattle.sheet_format.specs.Format.{decode, header}
 use Rattle.sheet_format.specs.declared.Command.{Command}
 use Rattle.sheet_format.specs.declared.Command.the-variants.{End}
 use Rattle.sheet_format.specs.declared.Decoded.the-variants.{Found, NoCommand, Short}
-use Rattle.sheet.specs.Check.{isEnd, inOrder, inRange, checkSheet}
+use Rattle.sheet.specs.Bounds.{Ordered, Bounds}
+use Rattle.sheet.specs.Check.{checkSheet}
 
 pub record Good (s : List ℕ) (at : ℕ) (c : Command) (after : ℕ) : Type 0 where
   pub stands : decode s at ≡ Found c after
-  pub order : inOrder at c ≡ true
-  pub range : inRange (header s .rank) c ≡ true
+  pub order : Ordered at c
+  pub range : Bounds (header s .rank) c
 
 pub record Link : Type 0 where
   pub command : Command
@@ -38,7 +38,7 @@ pub record Link : Type 0 where
 
 abbrev pub Leads : List ℕ → ℕ → List Link → ℕ → Type 0
 Leads s at [] to = at ≡ to
-Leads s at (l ∷ ls) to = Good s at (l .command) (l .after) × (isEnd (l .command) ≡ false) × Leads s (l .after) ls to
+Leads s at (l ∷ ls) to = Good s at (l .command) (l .after) × (l .command ≢ End) × Leads s (l .after) ls to
 
 pub record Reached (s : List ℕ) (at : ℕ) : Type 0 where
   pub least : 0 < length s
@@ -49,13 +49,13 @@ pub record Reached (s : List ℕ) (at : ℕ) : Type 0 where
 pub record OutOfOrder (s : List ℕ) (at : ℕ) : Type 0 where
   pub link : Link
   pub stands : decode s at ≡ Found (link .command) (link .after)
-  pub order : inOrder at (link .command) ≡ false
+  pub order : Ordered at (link .command) → ⊥
 
 pub record OutOfRange (s : List ℕ) (at : ℕ) : Type 0 where
   pub link : Link
   pub stands : decode s at ≡ Found (link .command) (link .after)
-  pub order : inOrder at (link .command) ≡ true
-  pub range : inRange (header s .rank) (link .command) ≡ false
+  pub order : Ordered at (link .command)
+  pub range : Bounds (header s .rank) (link .command) → ⊥
 
 pub record Ended (s : List ℕ) (after : ℕ) : Type 0 where
   pub at : ℕ

@@ -33,7 +33,7 @@ fn is_letter(m: usize, i: u8) -> bool
 }
 
 fn update_in_range(m: usize, update: Update) -> bool
-    requires { ⌜ m ≤ 5 ⌝ }
+    requires { ⌜ m ≤ 6 ⌝ }
     ensures { λ r. ⌜ r ≡ updateInRange m update ⌝ }
 {
     match update {
@@ -58,7 +58,7 @@ fn query_in_range(query: Query) -> bool
 
 // Whether the operands are in range in a sheet of rank m.
 pub(crate) fn operands_in_range(m: usize, command: Command) -> bool
-    requires { ⌜ m ≤ 5 ⌝ }
+    requires { ⌜ m ≤ 6 ⌝ }
     ensures { λ r. ⌜ r ≡ operandsInRange m command ⌝ }
 {
     match command {

@@ -4,13 +4,14 @@ use native.Mathlib.Omega.{arith}
 use borrow.Author.Needs.{needs}
 use Rattle.sheet_format.specs.declared.Update.{Update}
 use Rattle.sheet_format.specs.declared.Command.the-variants.{Change}
-use Rattle.sheet.proofs.InRange.{UpdateWithin, within}
+use Rattle.sheet.specs.Bounds.{UpdateBounds}
+use Rattle.sheet.proofs.InRange.{within}
 use Rattle.machine.specs.Step.{updated}
 use Rattle.machine.proofs.update.Statement.{statement}
 use Rattle.machine.proofs.update.Tie as tie
 
 -- the update is u
-arm : (c : tie.After-slice-known) {u : Update} → let start = c .before .args in start .update ≡ u → UpdateWithin (start .header .rank) u
+arm : (c : tie.After-slice-known) {u : Update} → let start = c .before .args in start .update ≡ u → UpdateBounds (start .header .rank) u
 arm c is = let start = c .before in within (start .args .header .rank) (Change (start .args .update)) (start .pre .1) (ap Change is)
 
 unit : tie.Need-make-unit-requires

@@ -10,10 +10,6 @@ use Rattle.sheet.proofs.Tests.{and-on, and-off}
 use Rattle.sheet.proofs.checks.update_in_range.Statement.{statement}
 use Rattle.sheet.proofs.checks.update_in_range.Tie as tie
 
--- where the register of a set is found, and the beginning
-abbrev start : tie.After-update2 → tie.Start
-start c = c .before .before
-
 unit : tie.Need-returns
 unfolding updateInRange isRegister less
 unit c = rw (c .before .update .given .1) refl
@@ -22,7 +18,7 @@ set : tie.Need-returns-2
 unfolding updateInRange isRegister less
 set c = let k = c .before .before .before in
     rw (k .update2 .given .1)
-    (ap (less _) (c .size .ensures ∙ size-is (start k .args .m) (omega arith)) ∙ and-on _ (less-yes (c .before .if1 .taken)))
+    (ap (less _) (c .size .ensures ∙ size-is _ (omega arith)) ∙ and-on _ (less-yes (c .before .if1 .taken)))
 
 set-not : tie.Need-returns-3
 unfolding updateInRange isRegister less
