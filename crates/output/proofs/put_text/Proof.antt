@@ -1,8 +1,9 @@
--- Each arm is the line of `text` for its command.
+-- Each arm is the line of `text` for its kind of command.
+use mathlib.Core.Path.{sym, ap, _∙_}
 use native.Mathlib.Nat.{le-trans}
 use native.Mathlib.Omega.{arith}
 use borrow.Author.Needs.{needs}
-use Rattle.sheet.proofs.InRange.{within}
+use Rattle.sheet.specs.Check.{inRange}
 use Rattle.output.specs.Printed.{text}
 use Rattle.output.proofs.LineLengths.{line-short, tagged-pair-short}
 use Rattle.output.proofs.Overwritten.{overwritten-none}
@@ -20,40 +21,16 @@ begin-room : tie.Need-put-tagged-pair-requires
 begin-room c κs = let found = c .before .before in
     le-trans (tagged-pair-short _ _ _ (omega arith) (omega arith)) (omega (arith, start (found .before .before) .pre .0 .large))
 
-show-pre : tie.Need-put-register-requires
-show-pre c κs =
-    let found = c .before .before in
-    let s0 = start (found .before .before) in
-    (s0 .pre .0, within (s0 .args .m) _ (s0 .pre .1) (found .command2 .given .1))
-
-pair-pre : tie.Need-put-pairing-requires
-pair-pre c κs =
-    let found = c .before .before in
-    let s0 = start (found .before .before) in
-    let two = within (s0 .args .m) _ (s0 .pre .1) (found .command3 .given .1) in
-    (s0 .pre .0, omega (arith, two), omega (arith, two))
-
-equal-pre : tie.Need-put-equality-requires
-equal-pre c κs =
-    let found = c .before .before in
-    let s0 = start (found .before .before) in
-    let two = within (s0 .args .m) _ (s0 .pre .1) (found .command4 .given .1) in
-    (s0 .pre .0, omega (arith, two), omega (arith, two))
+show-pre : tie.Need-put-shown-requires
+show-pre c κs = let found = c .before .before in let s = start (found .before .before) in
+    (s .pre .0, ap (inRange (s .args .header .rank)) (sym (found .command2 .given .1)) ∙ s .pre .1)
 
 pub put-text-spec : {M : Type 1} → statement M
 unfolding text
 put-text-spec =
     tie.close
-    (tie.spec (λ c. search needs) end-room (λ c. search needs) begin-room (λ c. search needs) (λ c. search needs) (λ c. search needs) (λ c. search needs)
-    (λ c. search needs) (λ c. search needs) (λ c. search needs) show-pre (λ c. search needs) pair-pre (λ c. search needs) equal-pre
+    (tie.spec (λ c. search needs) end-room (λ c. search needs) begin-room (λ c. search needs) (λ c. search needs) show-pre
     (λ c. search needs) (λ c. let put = c .before .before in rw (put .before .before .enum-told .given .1) (put .put-line .ensures))
     (λ c. search needs) (λ c. let put = c .before .before in rw (put .before .before .before .command .given .1) (put .put-tagged-pair .ensures))
     (λ c. rw (c .enum-told2 .given .1) (overwritten-none 0 _))
-    (λ c. rw (c .enum-told3 .given .1) (overwritten-none 0 _))
-    (λ c. rw (c .enum-told4 .given .1) (overwritten-none 0 _))
-    (λ c. rw (c .enum-told5 .given .1) (overwritten-none 0 _))
-    (λ c. rw (c .enum-told6 .given .1) (overwritten-none 0 _))
-    (λ c. rw (c .enum-told7 .given .1) (overwritten-none 0 _))
-    (λ c. search needs) (λ c. let put = c .before .before in rw (put .before .before .before .command2 .given .1) (put .put-register .ensures))
-    (λ c. search needs) (λ c. let put = c .before .before in rw (put .before .before .before .command3 .given .1) (put .put-pairing .ensures))
-    (λ c. search needs) (λ c. let put = c .before .before in rw (put .before .before .before .command4 .given .1) (put .put-equality .ensures)))
+    (λ c. search needs) (λ c. let put = c .before .before in rw (put .before .before .before .command2 .given .1) (put .put-shown .ensures)))
