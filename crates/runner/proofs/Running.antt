@@ -11,14 +11,14 @@ use Rattle.sheet_format.specs.Format.{header}
 use Rattle.sheet_format.specs.declared.Header.{Header}
 use Rattle.sheet.specs.Check.{placed, commands, checkSheet}
 use Rattle.runner.specs.Run.{obeyAll}
-use Rattle.runner.specs.Turn.{state, first, begunFor, beginCall, turnCall, goesOn, turns, ahead}
+use Rattle.runner.specs.Turn.{state, first, begunFor, beginCall, turnCall, goesOn, turns, ahead, Along}
 use Rattle.runner.specs.declared.Cursor.{Cursor}
 use Rattle.runner.specs.declared.Begun.the-variants.{Ready}
 use Rattle.runner.specs.declared.Turned.{Turned}
 use Rattle.runner.specs.declared.Turned.the-variants.{On, Ended, NotObeyed}
 use Rattle.runner.proofs.Ahead.{ahead-start}
 use Rattle.runner.proofs.Beginning.{begun-ready}
-use Rattle.runner.proofs.Turning.{Along, Goes, Ends, along-first, along-within, turn-goes, turn-ends}
+use Rattle.runner.proofs.Turning.{Goes, Ends, along-first, along-within, turn-goes, turn-ends}
 
 module _ {s : List ℕ} {h : Header} {k : Cursor} {x : List ℕ} where
   -- what is left to obey at a cursor, and at the next one

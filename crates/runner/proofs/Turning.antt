@@ -1,7 +1,6 @@
 -- A turn at a cursor that a run of an accepted sheet comes to: the command there is obeyed, since the count stays a word. Rests on Ahead, Beginning, Puts,
 -- sheet's Accepted and machine's Costs.
 --
---   Along s h k x         a run of the sheet s with the header h comes to the cursor k, with the registers x
 --   Goes s h k x next y   the turn there goes on with the cursor next and the registers y
 --   Ends s h k x y        it is the last, and leaves the registers y
 use mathlib.Core.Path.{_≡_, refl, sym, ap, _∙_}
@@ -27,7 +26,7 @@ use Rattle.sheet.proofs.Accepted.{Next, accepted-start, accepted-next}
 use Rattle.machine.specs.Step.{obey, cost}
 use Rattle.machine.proofs.Costs.{cost-small}
 use Rattle.runner.specs.Run.{after}
-use Rattle.runner.specs.Turn.{state, beginCall, fits, obeys, moved, onward, turnCall, ahead}
+use Rattle.runner.specs.Turn.{state, beginCall, fits, obeys, moved, onward, turnCall, ahead, Along}
 use Rattle.runner.specs.declared.Cursor.{Cursor}
 use Rattle.runner.specs.declared.Begun.the-variants.{Ready}
 use Rattle.runner.specs.declared.Turned.{Turned}
@@ -35,13 +34,6 @@ use Rattle.runner.specs.declared.Turned.the-variants.{On}
 use Rattle.runner.proofs.Ahead.{ahead-last, ahead-next}
 use Rattle.runner.proofs.Beginning.{begun-ready}
 use Rattle.runner.proofs.Puts.{obey-size}
-
-pub record Along (s : List ℕ) (h : Header) (k : Cursor) (x : List ℕ) : Type 0 where
-  pub header-is : h ≡ header s
-  pub short : length s ≤ 4096
-  pub accepted : checkFrom s (k .at) ≡ Accepted
-  pub four : length x ≡ 2880
-  pub few : k .count ≤ 2027640 * k .at
 
 pub record Goes (s : List ℕ) (h : Header) (k : Cursor) (x : List ℕ) (next : Cursor) (y : List ℕ) : Type 0 where
   pub command : Command

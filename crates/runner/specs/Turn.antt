@@ -13,9 +13,12 @@
 --   goesOn t y k f        after a turn at the cursor k that answered t and left y: f from the next cursor on, if there is one
 --   turns n s h k x       n turns, or fewer where the run ends: the last cursor, and the registers
 --   ahead s at            the commands of the sheet s from an offset on
+--   Along s h k x         a run of the accepted sheet s with the header h comes to the cursor k, with the registers x: the check from there on finds nothing,
+--                         and the count is at most that of a product of rank 5 for each byte before
+use mathlib.Core.Path.{_≡_}
 use mathlib.Core.Bool.{Bool, cond, _&&_}
 use mathlib.Core.List.{List}
-use Prim.Native.Nat.{ℕ, zero, suc, _+_, _-_, _^_}
+use Prim.Native.Nat.{ℕ, zero, suc, _+_, _*_, _-_, _^_, _≤_}
 use lib.ListN.{length}
 use Rattle.lists.specs.Lists.{same, less}
 use Rattle.refusals.specs.Refusals.{Outcome}
@@ -26,7 +29,7 @@ use Rattle.sheet_format.specs.declared.Header.{Header}
 use Rattle.sheet_format.specs.declared.Command.{Command}
 use Rattle.sheet_format.specs.declared.Decoded.{Decoded}
 use Rattle.sheet_format.specs.declared.Decoded.the-variants.{Found, NoCommand, Short, Nothing}
-use Rattle.sheet.specs.Check.{isEnd, inRange, placedFrom, commands, checkSheet}
+use Rattle.sheet.specs.Check.{isEnd, inRange, placedFrom, commands, firstRefusal, checkSheet}
 use Rattle.machine.specs.Step.{obey, cost}
 use Rattle.runner.specs.Run.{State}
 use Rattle.runner.specs.declared.Cursor.{Cursor}
@@ -83,3 +86,10 @@ turns (suc n) s h k x = let o = turnCall s h k x in goesOn (o .answer) (o .lent)
 
 abbrev pub ahead : List ℕ → ℕ → List Command
 ahead s at = commands (placedFrom (suc (length s - at)) s at)
+
+pub record Along (s : List ℕ) (h : Header) (k : Cursor) (x : List ℕ) : Type 0 where
+  pub header-is : h ≡ header s
+  pub short : length s ≤ 4096
+  pub accepted : firstRefusal s (placedFrom (suc (length s - k .at)) s (k .at)) ≡ Accepted
+  pub four : length x ≡ 2880
+  pub few : k .count ≤ 2027640 * k .at
