@@ -1,0 +1,4 @@
+-- a command
+mod Turned
+
+-- a piece, and all pieces

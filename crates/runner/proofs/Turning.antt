@@ -38,6 +38,7 @@ use Rattle.runner.proofs.Puts.{obey-size}
 pub record Goes (s : List ℕ) (h : Header) (k : Cursor) (x : List ℕ) (next : Cursor) (y : List ℕ) : Type 0 where
   pub command : Command
   pub stands : decode s (k .at) ≡ Found command (next .at)
+  pub range : inRange (h .rank) command ≡ true
   pub on : k .at < next .at
   pub ahead-is : ahead s (k .at) ≡ command ∷ ahead s (next .at)
   pub made : after h command (state k x) ≡ state next y
@@ -47,6 +48,7 @@ pub record Ends (s : List ℕ) (h : Header) (k : Cursor) (x y : List ℕ) : Type
   pub command : Command
   pub next : ℕ
   pub stands : decode s (k .at) ≡ Found command next
+  pub range : inRange (h .rank) command ≡ true
   pub ahead-is : ahead s (k .at) ≡ command ∷ []
   pub made : after h command (state k x) ≡ state k y
 
@@ -108,6 +110,7 @@ module _ {s : List ℕ} {h : Header} {k : Cursor} {x : List ℕ} where
             record {
               command = c;
               stands = next .stands ∙ ap (Found c) at-is;
+              range = range;
               on = omega (arith, within .0, at-is);
               ahead-is = ahead-next s (k .at) next t ∙ ap (λ n. c ∷ ahead s n) at-is;
               made = λ i. record { contents = y-is i; count = to-is i .count };
@@ -133,6 +136,7 @@ module _ {s : List ℕ} {h : Header} {k : Cursor} {x : List ℕ} where
               command = c;
               next = next .after;
               stands = next .stands;
+              range = range;
               ahead-is = ahead-last s (k .at) next t;
               made = λ i. record { contents = y-is i; count = end-costs (h .rank) (k .count) c t i };
             }
