@@ -5,3 +5,4 @@ pub mod CheckFrom
 pub mod Cases
 pub mod Accepted
 pub mod Table
+pub mod Composed
