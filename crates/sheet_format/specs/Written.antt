@@ -1,4 +1,4 @@
--- The commands as they are written in a sheet (document 01, "Run sheets"), and that the sheet is read so.
+-- The commands as document 01 writes them ("Run sheets"), apart from how they are read, and the claim that they are read so.
 --
 --   little n v   v in n bytes, the lowest first
 --   written c    the bytes of a command: its code, then its operands
@@ -7,7 +7,8 @@
 --   Fits n v     v fits n bytes
 --   Writable c   each operand fits its bytes
 --   CutOff s at  the code of a command stands at an offset, and the sheet ends before the command does
---   Agrees       what stands at an offset is what is written there, and nothing else is
+--   Agrees       a command that is written at an offset is read there, and one that is read is written there; a code is unknown exactly
+--                where no command has it, a command short exactly where it is cut off, and nothing is there exactly past the end
 use mathlib.Core.Path.{_≡_}
 use mathlib.Core.Logic.{_≢_, _↔_}
 use mathlib.Core.List.{List, [], _∷_, _++_}
