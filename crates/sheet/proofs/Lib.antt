@@ -8,3 +8,4 @@ mod Begun
 pub mod Accepted
 mod Reached
 pub mod Table
+pub mod Composed

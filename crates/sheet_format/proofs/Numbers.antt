@@ -32,7 +32,7 @@ module _ (x : List ℕ) (i n : ℕ) where
       rw (at, all) at (h .is)
 
 module _ (x : List ℕ) (bytes : (i : ℕ) → getD x i 0 < 2 ^ 8) where
-  number-fits : (i n : ℕ) → number x i n < 256 ^ n
+  pub number-fits : (i n : ℕ) → number x i n < 256 ^ n
   unfolding number byte
   number-fits i zero = omega arith
   number-fits i (suc n) = omega (arith, bytes i, number-fits (suc i) n)
