@@ -19,11 +19,11 @@ use Rattle.runner.proofs.Turning.{Goes, Ends}
 use Rattle.output.specs.Text.{textRoom}
 use Rattle.output.specs.Printed.{text, texts, front, inRangeText, textOf, textCall}
 
-front-taken : (text t : List ℕ) {o : Outcome ℕ (List ℕ)} → front text t ≡ o → take (o .answer) (o .lent) ≡ text
+pub front-taken : (text t : List ℕ) {o : Outcome ℕ (List ℕ)} → front text t ≡ o → take (o .answer) (o .lent) ≡ text
 unfolding front overwrite
 front-taken text t e = ap (λ o. take (o .answer) (o .lent)) (sym e) ∙ take-append-seam text _
 
-module _ {s : List ℕ} {h : Header} {k : Cursor} {x : List ℕ} where
+module _ (s : List ℕ) (h : Header) (k : Cursor) (x : List ℕ) where
   -- a command in range stands at the cursor, and the buffer t has room for its text
   pub text-taken : {c : Command} {next : ℕ} (t : List ℕ) {o : Outcome ℕ (List ℕ)} → decode s (k .at) ≡ Found c next → inRange (h .rank) c ≡ true
       → length x ≡ 2880 → textRoom ≤ length t → textCall s x h k t ≡ o → take (o .answer) (o .lent) ≡ text h c (state k x)

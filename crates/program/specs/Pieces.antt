@@ -44,6 +44,7 @@ pub record Printing (s : List ℕ) (h : Header) (k : Cursor) (x : List ℕ) (sen
   pub along : Along s h k x
   pub text : drop sent (printed s) ≡ textLeft false s h k x
   pub run : stateLeft false s h k x ≡ obeyed s
+  pub inside : sent ≤ length (printed s)
   pub few : sent ≤ 65536 * k .at
 
 pub record Printed (s x : List ℕ) (k : Cursor) (sent : ℕ) (whole : Bool) : Type 0 where
@@ -52,4 +53,4 @@ pub record Printed (s x : List ℕ) (k : Cursor) (sent : ℕ) (whole : Bool) : T
 
 abbrev pub ReadInto : Input → List ℕ → Type 0
 ReadInto (Bytes n) b = n ≤ length b
-ReadInto Unread b = length b ≡ length b
+ReadInto Unread b = Unit {0}

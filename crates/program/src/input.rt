@@ -21,10 +21,11 @@ pub(crate) fn read(buffer: &mut [u8]) -> Input
         if got < 0 {
             return Input::Unread;
         }
-        if got == 0 {
+        let n = io::count(got, &buffer[done..]);
+        if n == 0 {
             return Input::Bytes(done);
         }
-        done += got as usize;
+        done += n;
     }
     Input::Bytes(done)
 }

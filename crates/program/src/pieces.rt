@@ -78,11 +78,18 @@ fn print_all(
         let used = filled.used;
         let written = hand_over(sheet, &buffer[0..used], sent);
         sent += used;
-        if !written || filled.ended {
+        if !written {
             return Output {
                 cursor,
                 sent,
-                whole: written,
+                whole: false,
+            };
+        }
+        if filled.ended {
+            return Output {
+                cursor,
+                sent,
+                whole: true,
             };
         }
     }

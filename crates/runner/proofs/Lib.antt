@@ -1,5 +1,5 @@
 -- how a run begins, and one turn
-mod Beginning
+pub mod Beginning
 pub mod Ahead
 mod Puts
 mod Called

@@ -22,11 +22,11 @@ use Rattle.runner.proofs.Turning.{Goes, Ends, along-first, along-within
 
 module _ {s : List ℕ} {h : Header} {k : Cursor} {x : List ℕ} where
   -- what is left to obey at a cursor, and at the next one
-  goes-obeys : {to : Cursor} {y : List ℕ} → Goes s h k x to y → obeyAll h (ahead s (k .at)) (state k x) ≡ obeyAll h (ahead s (to .at)) (state to y)
+  pub goes-obeys : {to : Cursor} {y : List ℕ} → Goes s h k x to y → obeyAll h (ahead s (k .at)) (state k x) ≡ obeyAll h (ahead s (to .at)) (state to y)
   unfolding obeyAll
   goes-obeys {to} g = ap (λ cs. obeyAll h cs (state k x)) (g .ahead-is) ∙ ap (obeyAll h (ahead s (to .at))) (g .made)
 
-  ends-obeys : {y : List ℕ} → Ends s h k x y → obeyAll h (ahead s (k .at)) (state k x) ≡ state k y
+  pub ends-obeys : {y : List ℕ} → Ends s h k x y → obeyAll h (ahead s (k .at)) (state k x) ≡ state k y
   unfolding obeyAll
   ends-obeys e = ap (λ cs. obeyAll h cs (state k x)) (e .ahead-is) ∙ e .made
 
