@@ -3,7 +3,7 @@
 --   Case        a marked case: what is given, and what document 01 says of it
 --   Holds c     the definitions give what document 01 says: the list of permutations and their places; the tower and its images; a square by the
 --               product over permutations, by the nested method and as the product call's outcome; C and the count that the nested method
---               carries; the count that the product call answers; the run of a sheet, and what is printed for it
+--               carries; the count that the product call answers; the run of a sheet, at once and turn by turn, and what is printed for it
 --   table       the marked cases, in document 01's order
 use mathlib.Core.Path.{_≡_}
 use mathlib.Core.List.{List, [], _∷_, _++_, map}
@@ -24,7 +24,10 @@ use Rattle.algebra.specs.Nested.{operations, nested}
 use Rattle.algebra.specs.Cost.{C}
 use Rattle.ranks.specs.Ranks.{needed}
 use Rattle.element_calls.specs.Calls.{Buffers, productCall}
+use Rattle.sheet_format.specs.Format.{header}
 use Rattle.runner.specs.Run.{given, runSheet}
+use Rattle.runner.specs.Turn.{first, beginCall, turns}
+use Rattle.runner.specs.declared.Begun.the-variants.{Ready}
 use Rattle.output.specs.Printed.{printed}
 
 pub data Case : Type 0 where
@@ -49,6 +52,10 @@ basisOf m x = basis ℕ words m (ofWord m x)
 abbrev called : (m q : ℕ) (h g : List ℕ) → Outcome Answer Buffers
 called m q h g = productCall m q h g (replicate (factorial (suc m)) 7) (replicate (needed m + 1) 7)
 
+-- registers in which the words h stand first, and then zeros
+abbrev registersOf : List ℕ → List ℕ
+registersOf h = h ++ replicate (2880 - length h) 0
+
 abbrev pub Holds : Case → Type 0
 Holds (indices m s) = (perms m ≡ map (ofWord m) s) × (map place (map (ofWord m) s) ≡ range 0 (factorial (suc m)))
 Holds (images-tower w t) = (imagesOf t ≡ w) × (towerOf w ≡ t)
@@ -58,7 +65,11 @@ Holds (square m q x h) =
     × (called m q (basisOf m x) (basisOf m x) ≡ record { answer = accepted (C m m); lent = record { result = h; scratch = replicate (needed m) 0 ++ (7 ∷ []) } })
 Holds (count m l n) = (C m l ≡ n) × (operations (nested ℕ words 3 2 m l (unit ℕ words m) (unit ℕ words l) .count) ≡ n)
 Holds (answered m n) = called m 3 (unit ℕ words m) (unit ℕ words m) .answer ≡ accepted n
-Holds (run s h n t) = (runSheet s ≡ given Accepted (record { contents = h ++ replicate (2880 - length h) 0; count = n })) × (printed s ≡ t)
+Holds (run s h n t) =
+    (runSheet s ≡ given Accepted (record { contents = registersOf h; count = n }))
+    × (beginCall s ≡ Ready (header s) first)
+    × (turns (length s) s (header s) first (registersOf []) ≡ record { answer = record { at = length s - 1; count = n }; lent = registersOf h })
+    × (printed s ≡ t)
 
 abbrev pub table : List Case
 table =

@@ -1,6 +1,6 @@
 -- The text of a command in range, or nothing. Rests on sheet's InRange.
 use mathlib.Core.Path.{_≡_, sym, _∙_}
-use mathlib.Core.Bool.{true}
+use mathlib.Core.Bool.{true, false}
 use borrow.Author.Needs.{needs}
 use borrow.Author.Tests.{not-true}
 use Rattle.lists.proofs.Test.{not-false}
@@ -16,7 +16,10 @@ start c = c .before .before .before
 
 outside : tie.Need-returns
 unfolding inRangeText
-outside c = rw (sym (c .before .in-range .ensures) ∙ not-true _ (c .if1 .taken)) (overwritten-none 0 _)
+outside c =
+    let u = start (c .before) .args in
+    let out : inRange (u .header .rank) (u .command) ≡ false = sym (c .before .in-range .ensures) ∙ not-true _ (c .if1 .taken) in
+    rw out (overwritten-none 0 _)
 
 ranged : (c : tie.Else1) → let u = start (c .before) .args in inRange (u .header .rank) (u .command) ≡ true
 ranged c = sym (c .before .in-range .ensures) ∙ not-false _ (c .if1 .left)

@@ -17,7 +17,8 @@ bounds : (c : tie.After-shared-slice-known) {w : Query} → start c .args .query
 bounds c e = let s = start c in within (s .args .header .rank) _ (s .pre .1) (ap Show e)
 
 register : tie.Need-put-register-requires
-register c κs = let f = c .before .before in let k = f .before .before in (start k .pre .0, bounds k (f .query .given .1))
+register c κs = let f = c .before .before in let k = f .before .before in let one = bounds k (f .query .given .1) in
+    (start k .pre .0, omega (arith, one))
 
 pairing : tie.Need-put-pairing-requires
 pairing c κs = let f = c .before .before in let k = f .before .before in let two = bounds k (f .query2 .given .1) in

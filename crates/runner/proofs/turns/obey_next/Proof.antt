@@ -21,16 +21,18 @@ step c = c .before .before
 -- ---- the needs
 
 returns : tie.Need-returns
-returns c = let k = c .before .before in turn-unfit _ _ _ _ _ (k .cost .ensures) (omega arith)
+returns c = let k = c .before .before in let u = start k .args in
+    turn-unfit (u .header) (u .cursor) (u .command) (u .after) (u .x .now) (k .cost .ensures) (omega arith)
 
 returns-2 : tie.Need-returns-2
 returns-2 c =
-    let t = c .before .before in let s = step (t .before .before) in let u = start (cost s) in
-    turn-obeyed _ _ _ _ _ (cost s .cost .ensures) (s .step .ensures) (t .enum-told .given .1) (omega arith) (omega arith)
+    let t = c .before .before in let s = step (t .before .before) in let u = start (cost s) .args in
+    turn-obeyed (u .header) (u .cursor) (u .command) (u .after) (u .x .now) (cost s .cost .ensures) (s .step .ensures) (t .enum-told .given .1) (omega arith) (omega arith)
     ∙ ap (λ r. record { answer = r; lent = s .step .last .0 }) (sym (c .onward .ensures))
 
 returns-3 : tie.Need-returns-3
-returns-3 c = let s = step (c .before .before) in turn-unobeyed _ _ _ _ _ (cost s .cost .ensures) (s .step .ensures) (c .enum-told2 .given .1)
+returns-3 c = let s = step (c .before .before) in let u = start (cost s) .args in
+    turn-unobeyed (u .header) (u .cursor) (u .command) (u .after) (u .x .now) (cost s .cost .ensures) (s .step .ensures) (c .enum-told2 .given .1)
 
 pub obey-next-spec : {M : Type 1} → statement M
 obey-next-spec =
