@@ -3,3 +3,4 @@ mod Unit
 mod Taken
 pub mod Costs
 pub mod Called
+pub mod Counted

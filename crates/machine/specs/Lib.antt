@@ -1,3 +1,4 @@
 pub mod Registers
 pub mod Steps
 pub mod Step
+pub mod Counted

@@ -12,11 +12,13 @@ fn update_cost(m: usize, update: Update) -> u64
     ensures { λ r. ⌜ r ≡ updateCost m update ⌝ }
 {
     let size = ranks::size(m) as u64;
+    let letter = 3 * size / 2;
+    let product = ranks::product_count(m);
     match update {
         Update::Unit(_) => 0,
         Update::Set(_, _, _) => 0,
-        Update::Letter(_, _) => 3 * size / 2,
-        Update::Product(_, _, _) => ranks::product_count(m),
+        Update::Letter(_, _) => letter,
+        Update::Product(_, _, _) => product,
         Update::Sum(_, _, _) => size,
         Update::Scale(_, _) => size,
     }
