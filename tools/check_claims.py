@@ -30,7 +30,7 @@ PAGE = 'docs/CLAIMS.md'
 # ---- what public functions may lack, each by its name; one that does not lack it may not stand here
 
 # no contract can speak of what a program reads and prints
-WITHOUT_CONTRACT = {'vector_io::print_field'}
+WITHOUT_CONTRACT = {'vector_io::print_field', 'program::run_input'}
 # the contract says by itself what the fields of the reader are, or that a list is zero
 WITHOUT_DEFINITION = WITHOUT_CONTRACT | {'sheet_format::reader_at', 'sheet_format::moved', 'word_lists::clear'}
 # where there is no contract, no answer is wrong

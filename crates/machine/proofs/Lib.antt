@@ -2,5 +2,4 @@ pub mod Put
 mod Unit
 mod Taken
 pub mod Costs
-pub mod Called
 pub mod Counted
