@@ -3,7 +3,7 @@
 --   Case        a marked case: what is given, and what document 01 says of it
 --   Holds c     the definitions give what document 01 says: the list of permutations and their places; the tower and its images; a square by the
 --               product over permutations, by the nested method and as the product call's outcome; C and the count that the nested method
---               carries; the count that the product call answers; the run of a sheet, at once and turn by turn, and what is printed for it
+--               carries; the count that the product call answers; the run of a sheet, at once and by turns, and what is printed for it
 --   table       the marked cases, in document 01's order
 use mathlib.Core.Path.{_≡_}
 use mathlib.Core.List.{List, [], _∷_, _++_, map}
@@ -27,6 +27,7 @@ use Rattle.element_calls.specs.Calls.{Buffers, productCall}
 use Rattle.sheet_format.specs.Format.{header}
 use Rattle.runner.specs.Run.{given, runSheet}
 use Rattle.runner.specs.Turn.{first, beginCall, turns}
+use Rattle.runner.specs.declared.Turned.the-variants.{Ended}
 use Rattle.runner.specs.declared.Begun.the-variants.{Ready}
 use Rattle.output.specs.Printed.{printed}
 
@@ -68,7 +69,7 @@ Holds (answered m n) = called m 3 (unit ℕ words m) (unit ℕ words m) .answer 
 Holds (run s h n t) =
     (runSheet s ≡ given Accepted (record { contents = registersOf h; count = n }))
     × (beginCall s ≡ Ready (header s) first)
-    × (turns (length s) s (header s) first (registersOf []) ≡ record { answer = record { at = length s - 1; count = n }; lent = registersOf h })
+    × (turns (length s) s (header s) first (registersOf []) ≡ record { cursor = record { at = length s - 1; count = n }; last = Ended; contents = registersOf h })
     × (printed s ≡ t)
 
 abbrev pub table : List Case

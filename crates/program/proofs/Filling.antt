@@ -1,4 +1,4 @@
--- The loop that obeys the commands of an accepted sheet and gathers what they print: what it holds at a cursor. Rests on Turned, output's Front
+-- The loop that obeys the commands of an accepted sheet and gathers what they print: what it holds at a cursor. Rests on NextText, output's Front
 -- and runner's Turning and Running.
 --
 --   Filling s h from old t used k x   the sheet s with the header h is obeyed from one cursor and the registers old to the cursor k and the registers x,
@@ -13,18 +13,17 @@ use lib.ListN.{length, take}
 use lib.Seq.{length-take-le, take-append-le, take-append-add}
 use borrow.Rule.Slice.PartMut.{midOf, putMid, mid-len, same-len-mid}
 use Rattle.sheet_format.specs.declared.Header.{Header}
-use Rattle.sheet_format.specs.declared.Command.{Command}
-use Rattle.runner.specs.Turn.{state, turnCall, ahead, Along}
+use Rattle.runner.specs.Turn.{state, turnCall, Along}
 use Rattle.runner.specs.declared.Cursor.{Cursor}
 use Rattle.runner.specs.declared.Turned.{Turned}
 use Rattle.runner.specs.declared.Turned.the-variants.{On}
 use Rattle.runner.proofs.Turning.{turn-goes, turn-ends}
 use Rattle.runner.proofs.Running.{goes-obeys, ends-obeys}
 use Rattle.output.specs.Text.{textRoom}
-use Rattle.output.specs.Printed.{text, texts, textCall}
+use Rattle.output.specs.Printed.{text, textCall}
 use Rattle.output.proofs.Front.{text-within}
 use Rattle.program.specs.Pieces.{textLeft, stateLeft, FillPre, Piece}
-use Rattle.program.proofs.Turned.{text-taken, goes-text, ends-text}
+use Rattle.program.proofs.NextText.{text-taken, goes-text, ends-text}
 
 pub record Filling (s : List ℕ) (h : Header) (from : Cursor) (old t : List ℕ) (used : ℕ) (k : Cursor) (x : List ℕ) : Type 0 where
   pub text : take used t ++ textLeft false s h k x ≡ textLeft false s h from old

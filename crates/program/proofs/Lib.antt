@@ -1,5 +1,5 @@
 -- a command
-mod Turned
+mod NextText
 -- a piece, and all pieces
 mod Filling
 mod Printing

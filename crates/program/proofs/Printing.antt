@@ -1,20 +1,20 @@
--- What is left to print after each piece. Rests on runner's Beginning and Turning.
+-- What is left to print after each piece. Rests on NextText and runner's Beginning
+-- and Turning.
 use mathlib.Core.Path.{_≡_, refl, sym, ap, subst, _∙_}
+use mathlib.Core.Logic.{_⊎_, inl, inr}
 use mathlib.Core.Bool.{Bool, true, false}
 use mathlib.Core.List.{List, _++_}
-use Prim.Native.Nat.{ℕ, _+_, _*_, _≤_, _<_}
-use native.Mathlib.Nat.{add-zero}
+use Prim.Native.Nat.{ℕ, _+_, _^_, _≤_, _<_}
 use native.Mathlib.Omega.{arith}
 use lib.ListN.{length, take, drop, length-drop, length-append, replicate, length-replicate}
 use lib.Seq.{length-take-le, take-at, take-length, drop-at, drop-drop}
 use Rattle.refusals.specs.declared.Refusal.{Refusal}
-use Rattle.refusals.specs.declared.Verdict.the-variants.{Refused}
 use Rattle.sheet_format.specs.Format.{header}
 use Rattle.sheet_format.specs.declared.Header.{Header}
 use Rattle.sheet_format.specs.declared.Command.{Command}
-use Rattle.sheet.specs.Check.{placed, commands, checkSheet}
-use Rattle.runner.specs.Run.{State, start, obeyAll}
-use Rattle.runner.specs.Turn.{state, first, beginCall, ahead, Along}
+use Rattle.sheet.specs.Check.{placed, commands}
+use Rattle.runner.specs.Run.{State, start, obeyAll, obeyed}
+use Rattle.runner.specs.Turn.{state, first, beginCall, ahead}
 use Rattle.runner.specs.declared.Cursor.{Cursor}
 use Rattle.runner.specs.declared.Begun.the-variants.{Ready, Failed}
 use Rattle.runner.proofs.Ahead.{ahead-start}
@@ -24,7 +24,7 @@ use Rattle.output.specs.Text.{errorRoom}
 use Rattle.output.specs.Printed.{texts, refusalText, printed, errorCall}
 use Rattle.lists.proofs.Test.{less-no}
 use Rattle.program.specs.Pieces.{textLeft, stateLeft, Piece, PartOf, Printing, Printed}
-use Rattle.program.proofs.Turned.{front-taken}
+use Rattle.program.proofs.NextText.{front-taken}
 
 module _ (s : List ℕ) {h : Header} where
   -- all commands from the start are those from the first cursor on
@@ -68,39 +68,60 @@ module _ (s : List ℕ) {h : Header} where
         let b = ap length parts ∙ length-append (take used t) (textLeft ended s h to y) in
         omega (arith, a, b, size, p .inside)
 
-    pub printing-fits : length t ≡ 65536 → sent + used ≤ 65536 * 4097
-    printing-fits large = omega (arith, p .few, f .within, large, p .along .short, along-within (p .along))
+    pub printing-fits : length t ≡ 65536 → (n : ℕ) → used ≡ n → sent + length (take n t) < 2 ^ 64
+    printing-fits large n e =
+        omega (arith, p .few, f .within, large, p .along .short, along-within (p .along), length-take-le n t (omega (arith, e, f .within)))
 
-    pub printing-more : length t ≡ 65536 → ended ≡ false → (k .at < to .at) × Printing s h to y (sent + used)
-    printing-more large e = let on = f .on e in (
-      on .0,
-      record {
-        along = on .1;
-        text = left ∙ ap (λ b. textLeft b s h to y) e;
-        run = ap (λ b. stateLeft b s h to y) (sym e) ∙ f .run ∙ p .run;
-        inside = omega (arith, sizes);
-        few = omega (arith, p .few, on .0, f .within, large);
-      },
-    )
+    run : stateLeft ended s h to y ≡ obeyed s
+    run = f .run ∙ p .run
 
-    pub printing-all : ended ≡ true → Printed s y to (sent + used) true
-    printing-all e = record {
-      text = λ w. sizes ∙ ap (λ b. sent + used + length (textLeft b s h to y)) e ∙ add-zero (sent + used);
-      run = λ w. ap (λ b. stateLeft b s h to y) (sym e) ∙ f .run ∙ p .run;
-    }
+    -- n bytes were handed over with it
+    module _ {n : ℕ} (lent : ℕ) (lent-is : used ≡ lent) (n-is : n ≡ sent + length (take lent t)) where
+      n-sent : n ≡ sent + used
+      n-sent = omega (arith, n-is, lent-is, length-take-le lent t (omega (arith, lent-is, f .within)))
 
-pub printing-failed : (s x : List ℕ) (k : Cursor) (sent : ℕ) → Printed s x k sent false
-printing-failed s x k sent = record {
-  text = λ e. let z : _≡_ {A = ℕ} 0 1 = cc in absurd (omega arith);
-  run = λ e. let z : _≡_ {A = ℕ} 0 1 = cc in absurd (omega arith);
-}
+      pub printing-more : length t ≡ 65536 → ended ≡ false → (k .at < to .at) × Printing s h to y n
+      printing-more large e = let on = f .on e in (
+        on .0,
+        record {
+          along = on .1;
+          text = ap (λ n. drop n (printed s)) n-sent ∙ left ∙ ap (λ b. textLeft b s h to y) e;
+          run = ap (λ b. stateLeft b s h to y) (sym e) ∙ run;
+          inside = omega (arith, sizes, n-sent);
+          few = omega (arith, p .few, on .0, f .within, large, n-sent);
+        },
+      )
+
+      pub printing-all : (w : Bool) → ended ≡ true → Printed s h y to n w
+      printing-all w e = let end = ap (λ b. stateLeft b s h to y) (sym e) ∙ run in record {
+        text = λ w. omega (arith, n-sent, sizes ∙ ap (λ b. sent + used + length (textLeft b s h to y)) e);
+        run = λ w. end;
+        left = inl end;
+      }
+
+      pub printing-failed : {w : Bool} → w ≡ false → Printed s h y to n w
+      printing-failed fails = record {
+        text = λ e. let z : _≡_ {A = ℕ} 0 1 = cc in absurd (omega arith);
+        run = λ e. let z : _≡_ {A = ℕ} 0 1 = cc in absurd (omega arith);
+        left = either ended refl;
+      }
+        where
+          either : (b : Bool) → ended ≡ b → (stateLeft true s h to y ≡ obeyed s) ⊎ (stateLeft false s h to y ≡ obeyed s)
+          either true e = inl (ap (λ b. stateLeft b s h to y) (sym e) ∙ run)
+          either false e = inr (ap (λ b. stateLeft b s h to y) (sym e) ∙ run)
 
 -- ---- a refused sheet
 
-pub refusal-part : (s b : List ℕ) {t : List ℕ} {n : ℕ} {why : Refusal} → beginCall s ≡ Failed why → errorRoom ≤ length b
-    → errorCall why b ≡ record { answer = n; lent = t } → (m : ℕ) → n ≡ m → PartOf s 0 (take m t)
-unfolding printed errorCall
-refusal-part s b {t} {n} {why} e room put m same =
-    let text = front-taken (refusalText why) b (rw (less-no {x = length b} {a = errorRoom} room) at put) in
-    let is : take n t ≡ printed s = text ∙ rw (begun-failed s e) refl in
-    subst (λ m. PartOf s 0 (take m t)) same (is ∙ sym (take-length (printed s)) ∙ ap (λ p. take (length p) (printed s)) (sym is))
+-- its line is all that is printed: n bytes of t, of which m are lent
+module _ (s b : List ℕ) {t : List ℕ} {n : ℕ} {why : Refusal} (e : beginCall s ≡ Failed why) (room : errorRoom ≤ length b)
+    (put : errorCall why b ≡ record { answer = n; lent = t }) (m : ℕ) (same : n ≡ m) where
+  refusal-is : take m t ≡ printed s
+  unfolding printed errorCall
+  refusal-is =
+      ap (λ m. take m t) (sym same) ∙ front-taken (refusalText why) b (rw (less-no {x = length b} {a = errorRoom} room) at put) ∙ rw (begun-failed s e) refl
+
+  pub refusal-part : PartOf s 0 (take m t)
+  refusal-part = refusal-is ∙ sym (take-length (printed s)) ∙ ap (λ p. take (length p) (printed s)) (sym refusal-is)
+
+  pub refusal-size : {sent : ℕ} → sent ≡ 0 + length (take m t) → sent ≡ length (printed s)
+  refusal-size f = omega (arith, f, ap length refusal-is)

@@ -2,13 +2,15 @@
 --
 --   textLeft ended s h k x      what the sheet s with the header h prints from the cursor k on, with the registers x: nothing where the run has ended
 --   stateLeft ended s h k x     the state in which its run ends
---   FillPre s h k x t           a run comes to the cursor, and the buffer t has 65,536 bytes
+--   FillPre s h k x t           what holds at the cursor is `Along`, and the buffer t has 65,536 bytes
 --   Piece s h k x t used ended to y   the first `used` bytes of t are what s prints from the cursor k, with the registers x, to the cursor `to`, with y
 --   PartOf s sent p             p is the part of what s prints that begins `sent` bytes after its front
---   Printing s h k x sent       a run comes to the cursor, and what it prints from there on begins `sent` bytes after the front of all that s prints
---   Printed s x k sent whole    where the output is whole: all that s prints was handed over, and the run ended with the count of k and the registers x
---   ReadInto n b                n bytes were read into the buffer b
+--   Printing s h k x sent       what holds at the cursor is `Along`, and what is printed from there on begins `sent` bytes after the front of all that s prints
+--   Printed s h x k sent written   the run has ended with the state at the cursor k and the registers x, or leads on from there to that of the whole run; where the
+--                               last part was written, it has ended, and `sent` is the length of all that s prints
+--   ReadInto i b                as many bytes as i says, if any, lie within the buffer b
 use mathlib.Core.Path.{_≡_}
+use mathlib.Core.Logic.{_⊎_}
 use mathlib.Core.Bool.{Bool, true, false, cond}
 use mathlib.Core.List.{List, [], _++_}
 use Prim.Native.Nat.{ℕ, _*_, _≤_, _<_}
@@ -47,9 +49,10 @@ pub record Printing (s : List ℕ) (h : Header) (k : Cursor) (x : List ℕ) (sen
   pub inside : sent ≤ length (printed s)
   pub few : sent ≤ 65536 * k .at
 
-pub record Printed (s x : List ℕ) (k : Cursor) (sent : ℕ) (whole : Bool) : Type 0 where
-  pub text : whole ≡ true → length (printed s) ≡ sent
-  pub run : whole ≡ true → state k x ≡ obeyed s
+pub record Printed (s : List ℕ) (h : Header) (x : List ℕ) (k : Cursor) (sent : ℕ) (written : Bool) : Type 0 where
+  pub text : written ≡ true → sent ≡ length (printed s)
+  pub run : written ≡ true → state k x ≡ obeyed s
+  pub left : (stateLeft true s h k x ≡ obeyed s) ⊎ (stateLeft false s h k x ≡ obeyed s)
 
 abbrev pub ReadInto : Input → List ℕ → Type 0
 ReadInto (Bytes n) b = n ≤ length b

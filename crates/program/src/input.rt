@@ -5,7 +5,7 @@ use libc::STDIN_FILENO;
 
 // What was read.
 pub(crate) enum Input {
-    // As many bytes.
+    // This many bytes, at the front of the buffer.
     Bytes(usize),
     // A read failed.
     Unread,

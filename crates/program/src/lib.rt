@@ -12,7 +12,8 @@ pub fn run_input() {
     let input = input::read(&mut bytes);
     match input {
         Input::Bytes(n) => {
-            if !pieces::run(&bytes[0..n]) {
+            let handed = pieces::run(&bytes[0..n]);
+            if !handed.written {
                 io::write_all(STDERR_FILENO, b"run_sheet: the output is not whole\n");
             }
         }

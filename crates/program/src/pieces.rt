@@ -1,9 +1,12 @@
 // What a sheet prints, one full buffer after another.
 
 ghost use mathlib.Core.Path.{_≡_};
+ghost use mathlib.Core.Bool.{true};
+ghost use Prim.Native.Nat.{_+_, _<_, _^_};
 ghost use lib.ListN.{length, replicate};
 ghost use Rattle.runner.specs.declared.Begun.the-variants.{Ready};
 ghost use Rattle.runner.specs.Turn.{beginCall};
+ghost use Rattle.output.specs.Printed.{printed};
 ghost use Rattle.program.specs.Pieces.{FillPre, Piece, PartOf, Printed};
 use libc::STDOUT_FILENO;
 use runner::Begun;
@@ -11,7 +14,7 @@ use runner::Cursor;
 use runner::Turned;
 use sheet_format::Header;
 
-// A piece of text: where the run stands after it, its size, and whether the run has ended.
+// A piece of text: where the run stands after it, at its end by the end command; its size; and whether the run has ended.
 struct Filled {
     cursor: Cursor,
     used: usize,
@@ -45,18 +48,28 @@ fn fill(sheet: &[u8], x: &mut [u64], buffer: &mut [u8], header: Header, from: Cu
     }
 }
 
-// Hands a part of what the sheet prints to the write call: the one that begins `sent` bytes after its front.
-fn hand_over(sheet: &[u8], part: &[u8], sent: usize) -> bool
-    requires { ⌜ PartOf (now sheet) sent (now part) ⌝ }
-{
-    io::write_all(STDOUT_FILENO, part)
+// What became of the bytes handed over so far: how many they are, and whether the last write took all of its part.
+pub(crate) struct Handed {
+    pub(crate) sent: usize,
+    pub(crate) written: bool,
 }
 
-// Where the run stands after what was printed, how many bytes were handed over, and whether all were written.
+// Hands a part of what the sheet prints to the write call: the one that begins `sent` bytes after its front.
+fn hand_over(sheet: &[u8], part: &[u8], sent: usize) -> Handed
+    requires { ⌜ PartOf (now sheet) sent (now part) × (sent + length (now part) < 2 ^ 64) ⌝ }
+    ensures { λ r. ⌜ r .sent ≡ sent + length (now (part .entry)) ⌝ }
+{
+    let written = io::write_all(STDOUT_FILENO, part);
+    Handed {
+        sent: sent + part.len(),
+        written,
+    }
+}
+
+// Where the run stands, at its end by the end command, and what became of the bytes.
 struct Output {
     cursor: Cursor,
-    sent: usize,
-    whole: bool,
+    handed: Handed,
 }
 
 // Obeys the commands of an accepted sheet, and prints, one full buffer after another. It stops where a write fails.
@@ -68,7 +81,7 @@ fn print_all(
     first: Cursor,
 ) -> Output
     requires { ⌜ (beginCall (now sheet) ≡ Ready header first) × (now x ≡ replicate 2880 0) × (length (now buffer) ≡ 65536) ⌝ }
-    ensures { λ r. ⌜ Printed (now (sheet .entry)) (now (x .exit)) (r .cursor) (r .sent) (r .whole) ⌝ }
+    ensures { λ r. ⌜ Printed (now (sheet .entry)) header (now (x .exit)) (r .cursor) (r .handed .sent) (r .handed .written) ⌝ }
 {
     let mut cursor = first;
     let mut sent = 0;
@@ -76,27 +89,21 @@ fn print_all(
         let filled = fill(sheet, x, buffer, header, cursor);
         cursor = filled.cursor;
         let used = filled.used;
-        let written = hand_over(sheet, &buffer[0..used], sent);
-        sent += used;
-        if !written {
-            return Output {
-                cursor,
-                sent,
-                whole: false,
-            };
+        let handed = hand_over(sheet, &buffer[0..used], sent);
+        if !handed.written {
+            return Output { cursor, handed };
         }
         if filled.ended {
-            return Output {
-                cursor,
-                sent,
-                whole: true,
-            };
+            return Output { cursor, handed };
         }
+        sent = handed.sent;
     }
 }
 
-// Runs a sheet and prints. The answer is whether the output is whole.
-pub(crate) fn run(sheet: &[u8]) -> bool {
+// Runs a sheet and prints. Where every write took its part, all that the sheet prints was handed over.
+pub(crate) fn run(sheet: &[u8]) -> Handed
+    ensures { λ r. ⌜ (r .written ≡ true → r .sent ≡ length (printed (now (sheet .entry)))) ⌝ }
+{
     let mut buffer = [0u8; 65536];
     let begun = runner::begin(sheet);
     match begun {
@@ -107,7 +114,7 @@ pub(crate) fn run(sheet: &[u8]) -> bool {
         Begun::Ready(header, first) => {
             let mut x = [0u64; 2880];
             let output = print_all(sheet, &mut x, &mut buffer, header, first);
-            output.whole
+            output.handed
         }
     }
 }

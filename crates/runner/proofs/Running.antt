@@ -1,24 +1,25 @@
--- Turns, one after another, obey the commands of an accepted sheet, one after another. Rests on Turning and Ahead.
+-- Turns, one after another, obey the commands of an accepted sheet, one after another. Rests on Turning, Ahead and Beginning.
 --
+--   Finishes o y          the course o comes to the end, with the state y and a count that is a word
 --   Running s h old k x   the run of the sheet s with the header h began on the registers old, and comes to the cursor k with the registers x
 use mathlib.Core.Path.{_≡_, refl, sym, ap, _∙_}
-use mathlib.Core.List.{List, [], _∷_}
-use Prim.Native.Nat.{ℕ, zero, suc, _-_, _≤_, _<_}
+use mathlib.Core.List.{List}
+use Prim.Native.Nat.{ℕ, zero, suc, _-_, _^_, _≤_, _<_}
 use native.Mathlib.Omega.{arith}
 use lib.ListN.{length}
 use Rattle.refusals.specs.declared.Verdict.the-variants.{Accepted}
 use Rattle.sheet_format.specs.Format.{header}
 use Rattle.sheet_format.specs.declared.Header.{Header}
 use Rattle.sheet.specs.Check.{placed, commands, checkSheet}
-use Rattle.runner.specs.Run.{obeyAll}
-use Rattle.runner.specs.Turn.{state, first, begunFor, beginCall, turnCall, goesOn, turns, ahead, Along}
+use Rattle.runner.specs.Run.{State, obeyAll}
+use Rattle.runner.specs.Turn.{state, first, begunFor, beginCall, turnCall, goesOn, turns, ahead, Along, Course}
 use Rattle.runner.specs.declared.Cursor.{Cursor}
 use Rattle.runner.specs.declared.Begun.the-variants.{Ready}
 use Rattle.runner.specs.declared.Turned.{Turned}
 use Rattle.runner.specs.declared.Turned.the-variants.{On, Ended, NotObeyed}
 use Rattle.runner.proofs.Ahead.{ahead-start}
 use Rattle.runner.proofs.Beginning.{begun-ready}
-use Rattle.runner.proofs.Turning.{Goes, Ends, along-first, along-within, turn-goes, turn-ends}
+use Rattle.runner.proofs.Turning.{Goes, Ends, along-first, along-within, turn-goes, turn-ends, turn-obeyed}
 
 module _ {s : List ℕ} {h : Header} {k : Cursor} {x : List ℕ} where
   -- what is left to obey at a cursor, and at the next one
@@ -51,24 +52,33 @@ module _ {s : List ℕ} {h : Header} where
 
 -- ---- the turns of a run, up to its end
 
+pub record Finishes (o : Course) (y : State) : Type 0 where
+  pub ended : o .last ≡ Ended
+  pub is : state (o .cursor) (o .contents) ≡ y
+  pub word : o .cursor .count < 2 ^ 64
+
 turns-from : (n : ℕ) {s : List ℕ} {h : Header} (k : Cursor) (x : List ℕ) → length s - k .at ≤ n → Along s h k x
-    → let o = turns n s h k x in record { contents = o .lent; count = o .answer .count } ≡ obeyAll h (ahead s (k .at)) (state k x)
+    → Finishes (turns n s h k x) (obeyAll h (ahead s (k .at)) (state k x))
 unfolding turns
 turns-from zero k x l a = absurd (omega (arith, along-within a))
 turns-from (suc n) {s} {h} k x l a = go (turnCall s h k x .answer) (turnCall s h k x .lent) refl (turns-from n)
   where
     -- the turn answered t and left y
     go : (t : Turned) (y : List ℕ) → turnCall s h k x ≡ record { answer = t; lent = y }
-        → ((to : Cursor) (y : List ℕ) → length s - to .at ≤ n → Along s h to y
-        → let o = turns n s h to y in record { contents = o .lent; count = o .answer .count } ≡ obeyAll h (ahead s (to .at)) (state to y))
-        → let o = goesOn t y k (turns n s h) in record { contents = o .lent; count = o .answer .count } ≡ obeyAll h (ahead s (k .at)) (state k x)
-    go (On to) y e ih = let g = turn-goes a e in ih to y (omega (arith, g .on)) (g .along) ∙ sym (goes-obeys g)
-    go Ended y e ih = sym (ends-obeys (turn-ends a e (λ to f. let z : _≡_ {A = ℕ} 0 1 = cc in omega arith)))
-    go NotObeyed y e ih = sym (ends-obeys (turn-ends a e (λ to f. let z : _≡_ {A = ℕ} 0 1 = cc in omega arith)))
+        → ((to : Cursor) (y : List ℕ) → length s - to .at ≤ n → Along s h to y → Finishes (turns n s h to y) (obeyAll h (ahead s (to .at)) (state to y)))
+        → Finishes (goesOn t y k (turns n s h)) (obeyAll h (ahead s (k .at)) (state k x))
+    go (On to) y e ih = let g = turn-goes a e in let f = ih to y (omega (arith, g .on)) (g .along) in
+        record { ended = f .ended; is = f .is ∙ sym (goes-obeys g); word = f .word }
+    go Ended y e ih = record {
+      ended = refl;
+      is = sym (ends-obeys (turn-ends a e (λ to f. let z : _≡_ {A = ℕ} 0 1 = cc in omega arith)));
+      word = omega (arith, a .few, a .short, along-within a);
+    }
+    go NotObeyed y e ih = absurd (turn-obeyed a e)
 
-pub turns-obey : (s : List ℕ) → checkSheet s ≡ Accepted → (x : List ℕ) → length x ≡ 2880 → let o = turns (length s) s (header s) first x in
-    record { contents = o .lent; count = o .answer .count } ≡ obeyAll (header s) (commands (placed s)) (record { contents = x; count = 0 })
+pub turns-end : (s : List ℕ) → checkSheet s ≡ Accepted → (x : List ℕ) → length x ≡ 2880
+    → Finishes (turns (length s) s (header s) first x) (obeyAll (header s) (commands (placed s)) (record { contents = x; count = 0 }))
 unfolding beginCall
-turns-obey s a x four =
-    turns-from (length s) first x (omega arith) (along-first (ap (λ v. begunFor v s) a) four)
-    ∙ ap (λ cs. obeyAll (header s) cs (record { contents = x; count = 0 })) (ahead-start s)
+turns-end s a x four =
+    let f = turns-from (length s) first x (omega arith) (along-first (ap (λ v. begunFor v s) a) four) in
+    record { ended = f .ended; is = f .is ∙ ap (λ cs. obeyAll (header s) cs (record { contents = x; count = 0 })) (ahead-start s); word = f .word }

@@ -2,7 +2,7 @@
 use mathlib.Core.Path.{_≡_, refl, sym, ap, _∙_}
 use mathlib.Core.Bool.{not}
 use mathlib.Core.List.{List}
-use Prim.Native.Nat.{ℕ, _+_, _*_, _-_, _<_}
+use Prim.Native.Nat.{ℕ, _+_, _*_, _-_, _^_, _<_}
 use native.Mathlib.Omega.{arith}
 use lib.ListN.{length, drop, replicate, length-drop, length-replicate, getD-replicate}
 use lib.Seq.{length-take-le, getD-take, getD-drop, ext-getD}
@@ -20,9 +20,10 @@ use Rattle.sheet.specs.Check.{placed, commands, checkSheet}
 use Rattle.sheet.proofs.Table.{exactly}
 use Rattle.machine.specs.Registers.{register}
 use Rattle.runner.specs.Run.{start, obeyed, ran, given, runSheet, finishedReport, runVerdict, runCall}
+use Rattle.runner.specs.Turn.{begunFor, begunReport, beginCall}
 use Rattle.runner.specs.Runs.{M, Runs}
 use Rattle.runner.proofs.Ahead.{rank-low, all-in-range}
-use Rattle.runner.proofs.Running.{turns-obey}
+use Rattle.runner.proofs.Running.{turns-end}
 use Rattle.runner.proofs.Kept.{Kept, kept-zeros, kept-all}
 
 module _ {M : ℕ} {x : List ℕ} (k : Kept M x) (r : ℕ) (four : r < 4) where
@@ -58,14 +59,24 @@ reports : (s : List ℕ) (v : Verdict) → checkSheet s ≡ v → Near v → Ref
 reports s Accepted e h = record { counts = λ d. absurd (d refl); near = h }
 reports s (Refused why) e h = record { counts = λ d. refl; near = h }
 
+begins : (s : List ℕ) (v : Verdict) → Near v → Refuses (begunReport (begunFor v s))
+begins s Accepted h = record { counts = λ d. absurd (d refl); near = h }
+begins s (Refused why) h = record { counts = λ d. refl; near = h }
+
+-- the count of the last cursor is that of the whole sheet
+word : (s : List ℕ) → checkSheet s ≡ Accepted → obeyed s .count < 2 ^ 64
+word s a = let t = turns-end s a (replicate 2880 0) (length-replicate {A = ℕ} 2880 0) in omega (arith, t .word, ap (λ o. o .count) (t .is))
+
 pub runs : (s : List ℕ) → Runs s
-unfolding runSheet
+unfolding runSheet beginCall
 runs s = let k = kept s (checkSheet s) refl in record {
   four = register-size k;
   past = register-past k;
   report = reports s (checkSheet s) refl (exactly s .report .near);
+  begins = begins s (checkSheet s) (exactly s .report .near);
   refused = λ why e. rw e refl;
-  obeyed = all-in-range s;
-  folds = turns-obey s;
+  ranged = all-in-range s;
+  folds = λ a x four. let t = turns-end s a x four in (t .ended, t .is);
+  word = λ a. word s a;
   lent = keeps s;
 }

@@ -13,7 +13,7 @@ use lib.ListN.{length}
 use Rattle.lists.proofs.Test.{same-yes, less-yes}
 use Rattle.refusals.specs.Refusals.{Outcome}
 use Rattle.refusals.specs.declared.Verdict.the-variants.{Accepted}
-use Rattle.sheet_format.specs.Format.{decode, header}
+use Rattle.sheet_format.specs.Format.{decode}
 use Rattle.sheet_format.specs.declared.Header.{Header}
 use Rattle.sheet_format.specs.declared.Command.{Command}
 use Rattle.sheet_format.specs.declared.Command.the-variants.{End, Begin, Change, Show}
@@ -30,7 +30,7 @@ use Rattle.runner.specs.Turn.{state, beginCall, fits, obeys, moved, onwa
 use Rattle.runner.specs.declared.Cursor.{Cursor}
 use Rattle.runner.specs.declared.Begun.the-variants.{Ready}
 use Rattle.runner.specs.declared.Turned.{Turned}
-use Rattle.runner.specs.declared.Turned.the-variants.{On}
+use Rattle.runner.specs.declared.Turned.the-variants.{On, NotObeyed}
 use Rattle.runner.proofs.Ahead.{ahead-last, ahead-next}
 use Rattle.runner.proofs.Beginning.{begun-ready}
 use Rattle.runner.proofs.Puts.{obey-size}
@@ -140,3 +140,7 @@ module _ {s : List ℕ} {h : Header} {k : Cursor} {x : List ℕ} where
               ahead-is = ahead-last s (k .at) next t;
               made = λ i. record { contents = y-is i; count = end-costs (h .rank) (k .count) c t i };
             }
+
+    pub turn-obeyed : {y : List ℕ} → turnCall s h k x ≡ record { answer = NotObeyed; lent = y } → ⊥
+    turn-obeyed e = let f = ap (λ o. o .answer) (turn-is e) in
+        ⊎-elim (λ l. let z : _≡_ {A = ℕ} 0 1 = cc (rw (l .0) at f) in omega arith) (λ l. let z : _≡_ {A = ℕ} 0 1 = cc (rw (l .0) at f) in omega arith) (next .rest)

@@ -2,13 +2,13 @@
 --
 --   finalWords s   the words of the registers after the sheet s
 --   M s            the words of an element of its rank, and 0 where no sheet has this rank
---   Runs s         the claim: each register has 720 words and is zero past M; a refused sheet leaves all words zero and the count 0, by its report too; in an
---                  accepted sheet each command is in range, so that the step obeys it, and turns from the first cursor on obey all; on lent registers a refusal
---                  counts 0 and leaves them as they were
+--   Runs s         the claim: each register has 720 words and is zero past M; a refused sheet leaves all words zero and the count 0, by its report and by
+--                  how its run begins; in an accepted sheet each command is in range, so that the step obeys it, turns from the first cursor on obey
+--                  all and come to the end, and the count is a word; on lent registers a refusal counts 0 and leaves them as they were
 use mathlib.Core.Path.{_≡_}
 use mathlib.Core.Bool.{true, cond}
 use mathlib.Core.List.{List}
-use Prim.Native.Nat.{ℕ, _-_, _<_}
+use Prim.Native.Nat.{ℕ, _-_, _^_, _<_}
 use lib.ListN.{length, drop, replicate}
 use Rattle.lists.specs.Lists.{less, All}
 use Rattle.refusals.specs.Refusals.{answerReport, Refuses, Keeps}
@@ -18,8 +18,9 @@ use Rattle.ranks.specs.Ranks.{size}
 use Rattle.sheet_format.specs.Format.{header}
 use Rattle.sheet.specs.Check.{inRange, placed, commands, checkSheet}
 use Rattle.machine.specs.Registers.{register}
-use Rattle.runner.specs.Run.{start, obeyAll, ran, runSheet, finishedReport, runCall}
-use Rattle.runner.specs.Turn.{first, turns}
+use Rattle.runner.specs.Run.{start, obeyAll, obeyed, ran, runSheet, finishedReport, runCall}
+use Rattle.runner.specs.Turn.{state, first, begunReport, beginCall, turns}
+use Rattle.runner.specs.declared.Turned.the-variants.{Ended}
 
 abbrev pub finalWords : List ℕ → List ℕ
 finalWords s = ran (checkSheet s) s .contents
@@ -31,8 +32,10 @@ pub record Runs (s : List ℕ) : Type 0 where
   pub four : (r : ℕ) → r < 4 → length (register r (finalWords s)) ≡ 720
   pub past : (r : ℕ) → r < 4 → drop (M s) (register r (finalWords s)) ≡ replicate (720 - M s) 0
   pub report : Refuses (finishedReport (runSheet s))
+  pub begins : Refuses (begunReport (beginCall s))
   pub refused : (why : Refusal) → checkSheet s ≡ Refused why → ran (checkSheet s) s ≡ start
-  pub obeyed : checkSheet s ≡ Accepted → All (λ c. inRange (header s .rank) c ≡ true) (commands (placed s))
-  pub folds : checkSheet s ≡ Accepted → (x : List ℕ) → length x ≡ 2880 → let o = turns (length s) s (header s) first x in
-      record { contents = o .lent; count = o .answer .count } ≡ obeyAll (header s) (commands (placed s)) (record { contents = x; count = 0 })
+  pub ranged : checkSheet s ≡ Accepted → All (λ c. inRange (header s .rank) c ≡ true) (commands (placed s))
+  pub folds : checkSheet s ≡ Accepted → (x : List ℕ) → length x ≡ 2880 → let o = turns (length s) s (header s) first x in (o .last ≡ Ended)
+      × (state (o .cursor) (o .contents) ≡ obeyAll (header s) (commands (placed s)) (record { contents = x; count = 0 }))
+  pub word : checkSheet s ≡ Accepted → obeyed s .count < 2 ^ 64
   pub lent : (x : List ℕ) → Keeps (answerReport (runCall s x .answer)) x (runCall s x .lent)

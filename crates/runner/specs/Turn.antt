@@ -3,25 +3,28 @@
 --   state k x             the state at the cursor k, with the registers x
 --   first                 the cursor of a run that has obeyed nothing
 --   begunFor v s          how a run of the sheet s with the verdict v begins
+--   begunReport b         number, place and count of how a run begins
 --   beginCall s           how a run of the sheet s begins: with its header and the first cursor, or with its refusal
 --   fits h k c            the count of the command c can be added to that of the cursor k: their sum is a word
 --   obeys h k c x         the command is obeyed on the registers x: it is in range, these are 4 × 720 words, and its count fits
---   moved h k c next      the cursor after the command, which ends at the offset next
+--   moved h k c after     the cursor after the command, where `after` is the offset after it
 --   onward c k            how a run goes on after the command, with the cursor k after it
 --   turnOf h k found x    what a turn answers and leaves, where `found` stands at the cursor; nothing is done where that is not obeyed
---   turnCall s h k x      the same of the sheet s
+--   turnedReport t        number, place and count of what a turn answers: document 01 has no number for a command that is not obeyed
+--   turnCall s h k x      what a turn of the sheet s answers and leaves
 --   goesOn t y k f        after a turn at the cursor k that answered t and left y: f from the next cursor on, if there is one
---   turns n s h k x       n turns, or fewer where the run ends: the last cursor, and the registers
+--   Course                where turns come to: the cursor before the last turn that went on no further, what that one answered, and the registers
+--   turns n s h k x       n turns, or fewer where one answers no cursor
 --   ahead s at            the commands of the sheet s from an offset on
---   Along s h k x         a run of the accepted sheet s with the header h comes to the cursor k, with the registers x: the check from there on finds nothing,
---                         and the count is at most that of a product of rank 5 for each byte before
+--   Along s h k x         what holds at each cursor k of a run of an accepted sheet s with the header h, with the registers x: the check from there on finds
+--                         nothing, and the count is at most that of a product of rank 5 for each byte before
 use mathlib.Core.Path.{_≡_}
 use mathlib.Core.Bool.{Bool, cond, _&&_}
 use mathlib.Core.List.{List}
 use Prim.Native.Nat.{ℕ, zero, suc, _+_, _*_, _-_, _^_, _≤_}
 use lib.ListN.{length}
 use Rattle.lists.specs.Lists.{same, less}
-use Rattle.refusals.specs.Refusals.{Outcome}
+use Rattle.refusals.specs.Refusals.{Report, reported, Outcome}
 use Rattle.refusals.specs.declared.Verdict.{Verdict}
 use Rattle.refusals.specs.declared.Verdict.the-variants.{Accepted, Refused}
 use Rattle.sheet_format.specs.Format.{decode, header}
@@ -48,6 +51,10 @@ abbrev pub begunFor : Verdict → List ℕ → Begun
 begunFor Accepted s = Ready (header s) first
 begunFor (Refused why) s = Failed why
 
+abbrev pub begunReport : Begun → Report
+begunReport (Ready h k) = reported Accepted (k .count)
+begunReport (Failed why) = reported (Refused why) 0
+
 unfoldable pub beginCall : List ℕ → Begun
 beginCall s = begunFor (checkSheet s) s
 
@@ -58,30 +65,40 @@ unfoldable pub obeys : Header → Cursor → Command → List ℕ → Bool
 obeys h k c x = inRange (h .rank) c && same (length x) 2880 && fits h k c
 
 abbrev pub moved : Header → Cursor → Command → ℕ → Cursor
-moved h k c next = record { at = next; count = k .count + cost (h .rank) c }
+moved h k c after = record { at = after; count = k .count + cost (h .rank) c }
 
 abbrev pub onward : Command → Cursor → Turned
 onward c k = cond (isEnd c) Ended (On k)
 
 abbrev pub turnOf : Header → Cursor → Decoded → List ℕ → Outcome Turned (List ℕ)
-turnOf h k (Found c next) x =
-    cond (obeys h k c x) (record { answer = onward c (moved h k c next); lent = obey h c x }) (record { answer = NotObeyed; lent = x })
+turnOf h k (Found c after) x =
+    cond (obeys h k c x) (record { answer = onward c (moved h k c after); lent = obey h c x }) (record { answer = NotObeyed; lent = x })
 turnOf h k NoCommand x = record { answer = NotObeyed; lent = x }
 turnOf h k Short x = record { answer = NotObeyed; lent = x }
 turnOf h k Nothing x = record { answer = NotObeyed; lent = x }
+
+abbrev pub turnedReport : Turned → Report
+turnedReport (On k) = reported Accepted (k .count)
+turnedReport Ended = reported Accepted 0
+turnedReport NotObeyed = reported Accepted 0
 
 unfoldable pub turnCall : List ℕ → Header → Cursor → List ℕ → Outcome Turned (List ℕ)
 turnCall s h k x = turnOf h k (decode s (k .at)) x
 
 -- ---- one after another
 
-abbrev pub goesOn : Turned → List ℕ → Cursor → (Cursor → List ℕ → Outcome Cursor (List ℕ)) → Outcome Cursor (List ℕ)
-goesOn (On next) y k f = f next y
-goesOn Ended y k f = record { answer = k; lent = y }
-goesOn NotObeyed y k f = record { answer = k; lent = y }
+pub record Course : Type 0 where
+  pub cursor : Cursor
+  pub last : Turned
+  pub contents : List ℕ
 
-unfoldable pub turns : ℕ → List ℕ → Header → Cursor → List ℕ → Outcome Cursor (List ℕ)
-turns zero s h k x = record { answer = k; lent = x }
+abbrev pub goesOn : Turned → List ℕ → Cursor → (Cursor → List ℕ → Course) → Course
+goesOn (On next) y k f = f next y
+goesOn Ended y k f = record { cursor = k; last = Ended; contents = y }
+goesOn NotObeyed y k f = record { cursor = k; last = NotObeyed; contents = y }
+
+unfoldable pub turns : ℕ → List ℕ → Header → Cursor → List ℕ → Course
+turns zero s h k x = record { cursor = k; last = On k; contents = x }
 turns (suc n) s h k x = let o = turnCall s h k x in goesOn (o .answer) (o .lent) k (turns n s h)
 
 abbrev pub ahead : List ℕ → ℕ → List Command

@@ -1,9 +1,8 @@
 // One command of a sheet.
 
 ghost use mathlib.Core.Path.{_≡_};
-ghost use mathlib.Core.Bool.{true};
 ghost use Rattle.sheet_format.specs.declared.Decoded.the-variants.{Found};
-ghost use Rattle.runner.specs.Turn.{beginCall, fits, onward, turnOf, turnCall};
+ghost use Rattle.runner.specs.Turn.{beginCall, onward, turnOf, turnCall};
 use crate::Begun;
 use crate::Cursor;
 use crate::Turned;
@@ -28,7 +27,7 @@ pub fn begin(sheet: &[u8]) -> Begun
     }
 }
 
-// Where a run stands after a command that is obeyed and ends at an offset, with the count that it then has.
+// How a run goes on after a command that is obeyed, where `next` is the cursor after it.
 fn onward(command: Command, next: Cursor) -> Turned
     ensures { λ r. ⌜ r ≡ onward command next ⌝ }
 {
@@ -69,7 +68,7 @@ fn obey_next(
 
 // The next command of a sheet that passes its check, on registers of 4 x 720 words: it stands at the cursor and is obeyed. Nothing is
 // done where no command stands there, it is out of range, the registers have another size, or the count would pass 2^64 - 1.
-// Example: the first turn of document 01's sheet makes all registers zero and goes on at offset 10 with the count 0.
+// Example: the first turn of document 01's sheet makes the element of each register zero and goes on at offset 10 with the count 0.
 pub fn turn(sheet: &[u8], x: &mut [u64], header: Header, cursor: Cursor) -> Turned
     ensures { λ r. ⌜ turnCall (now (sheet .entry)) header cursor (now (x .entry)) ≡ record { answer = r; lent = now (x .exit) } ⌝ }
 {

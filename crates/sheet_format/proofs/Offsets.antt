@@ -7,8 +7,7 @@ use lib.ListN.{length, drop}
 use Rattle.lists.proofs.Test.{LessView, lt, ge, less?, less-no}
 use Rattle.sheet_format.specs.Format.{byte, row, placedRow, decode}
 use Rattle.sheet_format.specs.declared.Command.{Command}
-use Rattle.sheet_format.specs.declared.Decoded.{Decoded}
-use Rattle.sheet_format.specs.declared.Decoded.the-variants.{Found, NoCommand, Short, Nothing}
+use Rattle.sheet_format.specs.declared.Decoded.the-variants.{Found, Nothing}
 use Rattle.sheet_format.specs.declared.decoder.Row.{Row}
 use Rattle.sheet_format.specs.declared.decoder.Row.the-variants.{Known, Unknown}
 

@@ -46,7 +46,7 @@ pub enum Query {
 pub enum Command {
     // The last command.
     End,
-    // The first command: all registers become zero.
+    // The first command: the element of each register becomes zero.
     Begin(Header),
     // A register changes.
     Change(Update),

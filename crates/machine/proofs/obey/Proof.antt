@@ -1,5 +1,5 @@
 -- Each arm is the definition's line for its kind of command. Rests on Put and sheet's InRange.
-use mathlib.Core.Path.{_≡_, refl, sym, ap, _∙_}
+use mathlib.Core.Path.{refl, sym, ap, _∙_}
 use borrow.Author.Needs.{needs}
 use Rattle.sheet.specs.Check.{inRange}
 use Rattle.sheet.proofs.InRange.{low}

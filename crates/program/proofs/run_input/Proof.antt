@@ -1,5 +1,5 @@
 -- The sheet is what was read, at the front of the buffer.
-use mathlib.Core.Path.{ap, subst}
+use mathlib.Core.Path.{subst}
 use native.Mathlib.Omega.{arith}
 use borrow.Author.Needs.{needs}
 use Rattle.program.specs.Pieces.{ReadInto}

@@ -1,9 +1,10 @@
 -- The loop's invariant: what is not handed over yet is what the sheet prints from the cursor on. Rests on Printing.
 use mathlib.Core.Path.{_≡_, refl, _∙_}
-use Prim.Native.Nat.{_+_, _-_, _<_}
+use Prim.Native.Nat.{_-_, _<_}
 use native.Mathlib.Omega.{arith}
 use lib.ListN.{length}
 use borrow.Author.Needs.{needs}
+use borrow.Author.Tests.{not-true}
 use Rattle.runner.proofs.Turning.{along-within}
 use Rattle.program.specs.Pieces.{Printing}
 use Rattle.program.proofs.Printing.{printing-none, printing-part, printing-fits, printing-more, printing-all, printing-failed}
@@ -49,28 +50,29 @@ large : (c : tie.After-fill Inv-loop μ-loop) → length (c .fill .last .1 .1 .0
 large c = kept c .0 ∙ start (head c) .pre .2
 
 hand-over-requires : tie.Need-hand-over-requires Inv-loop μ-loop
-hand-over-requires c κs = let m = made (c .before .before) in printing-part _ (head m .loop .inv .0) (m .fill .ensures) (m .fill .result .used - 0) (omega arith)
-
-add-sent : tie.Need-add-sent Inv-loop μ-loop
-add-sent c = let m = made (handed c) in omega (arith, printing-fits _ (head m .loop .inv .0) (m .fill .ensures) (large m))
+hand-over-requires c κs = let m = made (c .before .before) in let p = head m .loop .inv .0 in let n = m .fill .result .used - 0 in
+    (printing-part _ p (m .fill .ensures) n (omega arith), printing-fits _ p (m .fill .ensures) (large m) n (omega arith))
 
 failed : tie.Need-returns Inv-loop μ-loop
-failed c = printing-failed _ _ _ _
+failed c = let h = c .before .before in let m = made (handed h) in
+    printing-failed _ (head m .loop .inv .0) (m .fill .ensures) (m .fill .result .used - 0) (omega arith) (h .hand-over .ensures) (not-true _ (c .if1 .taken))
 
 whole : tie.Need-returns-2 Inv-loop μ-loop
-whole c = let m = made (handed (c .before .before)) in printing-all _ (head m .loop .inv .0) (m .fill .ensures) (c .if2 .taken)
+whole c = let h = c .before .before .before in let m = made (handed h) in
+    printing-all _ (head m .loop .inv .0) (m .fill .ensures) (m .fill .result .used - 0) (omega arith) (h .hand-over .ensures) _ (c .if2 .taken)
 
 -- the next cursor
-next : (c : tie.Else2 Inv-loop μ-loop) → let m = made (handed (c .before .before)) in let at = head m .loop in let s = start (head m) .args in
-    (at .cursor .at < m .fill .result .cursor .at)
-    × Printing (s .sheet .now) (s .header) (m .fill .result .cursor) (m .fill .last .1 .0) (at .sent + m .fill .result .used)
-next c = let m = made (handed (c .before .before)) in printing-more _ (head m .loop .inv .0) (m .fill .ensures) (large m) (c .if2 .left)
+next : (c : tie.Else2 Inv-loop μ-loop) → let h = c .before .before .before in let m = made (handed h) in let s = start (head m) .args in
+    (head m .loop .cursor .at < m .fill .result .cursor .at)
+    × Printing (s .sheet .now) (s .header) (m .fill .result .cursor) (m .fill .last .1 .0) (h .hand-over .result .sent)
+next c = let h = c .before .before .before in let m = made (handed h) in
+    printing-more _ (head m .loop .inv .0) (m .fill .ensures) (m .fill .result .used - 0) (omega arith) (h .hand-over .ensures) (large m) (c .if2 .left)
 
 loop-less : tie.Need-loop-less Inv-loop μ-loop
-loop-less c = let m = made (handed (c .before .before)) in omega (arith, next c .0, along-within (head m .loop .inv .0 .along))
+loop-less c = let m = made (handed (c .before .before .before)) in omega (arith, next c .0, along-within (head m .loop .inv .0 .along))
 
 loop-again : tie.Need-loop-again Inv-loop μ-loop
-loop-again c = let k = kept (made (handed (c .before .before))) in (next c .1, k .0, k .1)
+loop-again c = let k = kept (made (handed (c .before .before .before))) in (next c .1, k .0, k .1)
 
 pub print-all-spec : {M : Type 1} → statement M
 print-all-spec =
@@ -80,7 +82,6 @@ print-all-spec =
     (λ c. search needs)
     (λ c. let m = made (c .before) in m .fill .ensures .within)
     hand-over-requires
-    add-sent
-    (λ c. kept (made (handed (c .before))) .1) (λ c. kept (made (handed (c .before))) .0) failed
-    (λ c. kept (made (handed (c .before .before))) .1) (λ c. kept (made (handed (c .before .before))) .0) whole
+    (λ c. kept (made (handed (c .before .before))) .1) (λ c. kept (made (handed (c .before .before))) .0) failed
+    (λ c. kept (made (handed (c .before .before .before))) .1) (λ c. kept (made (handed (c .before .before .before))) .0) whole
     loop-less loop-again)

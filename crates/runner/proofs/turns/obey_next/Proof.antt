@@ -1,6 +1,5 @@
 -- The count is tested, and then the step answers whether the command is obeyed. Rests on Called.
-use mathlib.Core.Path.{_≡_, sym, ap, _∙_}
-use Prim.Native.Nat.{_+_}
+use mathlib.Core.Path.{sym, ap, _∙_}
 use native.Mathlib.Omega.{arith}
 use borrow.Author.Needs.{needs}
 use Rattle.runner.proofs.Called.{turn-unfit, turn-unobeyed, turn-obeyed}

@@ -17,7 +17,7 @@ use Rattle.runner.specs.Turn.{state, ahead}
 use Rattle.runner.specs.declared.Cursor.{Cursor}
 use Rattle.runner.proofs.Turning.{Goes, Ends}
 use Rattle.output.specs.Text.{textRoom}
-use Rattle.output.specs.Printed.{text, texts, front, inRangeText, textOf, textCall}
+use Rattle.output.specs.Printed.{text, texts, front, inRangeText, textCall}
 
 pub front-taken : (text t : List ℕ) {o : Outcome ℕ (List ℕ)} → front text t ≡ o → take (o .answer) (o .lent) ≡ text
 unfolding front overwrite
