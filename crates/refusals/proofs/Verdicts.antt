@@ -7,7 +7,7 @@ use Prim.Native.Nat.{ℕ, _≤_, _<_}
 use native.Mathlib.Omega.{arith}
 use Rattle.refusals.specs.Refusals.{refusalNumber, refusalPlace, _then_, unless, verdictReport}
 use Rattle.refusals.specs.declared.Refusal.{Refusal}
-use Rattle.refusals.specs.declared.Refusal.the-variants.{Rank, Size, Scratch, Word, Letter, Length, Image, Entry, Buffer, Bytes, Unknown, CutOff, Order, Range, Ending}
+use Rattle.refusals.specs.declared.Refusal.the-variants.{Rank, Size, Scratch, Word, Letter, Length, Image, Entry, Buffer, Bytes, Unknown, CutOff, Order, Range, Ending, NoInverse}
 use Rattle.refusals.specs.declared.Verdict.{Verdict}
 use Rattle.refusals.specs.declared.Verdict.the-variants.{Accepted, Refused}
 
@@ -67,3 +67,4 @@ number-within (CutOff at) = omega arith
 number-within (Order at) = omega arith
 number-within (Range at) = omega arith
 number-within (Ending at) = omega arith
+number-within (NoInverse at) = omega arith

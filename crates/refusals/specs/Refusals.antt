@@ -18,7 +18,7 @@ use mathlib.Core.Logic.{_≢_}
 use mathlib.Core.Bool.{Bool, cond}
 use Prim.Native.Nat.{ℕ, _≤_}
 use Rattle.refusals.specs.declared.Refusal.{Refusal}
-use Rattle.refusals.specs.declared.Refusal.the-variants.{Rank, Size, Scratch, Word, Letter, Length, Image, Entry, Buffer, Bytes, Unknown, CutOff, Order, Range, Ending}
+use Rattle.refusals.specs.declared.Refusal.the-variants.{Rank, Size, Scratch, Word, Letter, Length, Image, Entry, Buffer, Bytes, Unknown, CutOff, Order, Range, Ending, NoInverse}
 use Rattle.refusals.specs.declared.Verdict.{Verdict}
 use Rattle.refusals.specs.declared.Verdict.the-variants.{Accepted, Refused}
 use Rattle.refusals.specs.declared.Answer.{Answer}
@@ -39,6 +39,7 @@ refusalNumber (CutOff at) = 11
 refusalNumber (Order at) = 12
 refusalNumber (Range at) = 13
 refusalNumber (Ending at) = 14
+refusalNumber (NoInverse at) = 15
 
 abbrev pub refusalPlace : Refusal → ℕ
 refusalPlace Rank = 0
@@ -56,6 +57,7 @@ refusalPlace (CutOff at) = at
 refusalPlace (Order at) = at
 refusalPlace (Range at) = at
 refusalPlace (Ending at) = at
+refusalPlace (NoInverse at) = at
 
 infixl 30 _then_
 abbrev pub _then_ : Verdict → Verdict → Verdict

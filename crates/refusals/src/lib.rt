@@ -36,6 +36,8 @@ pub enum Refusal {
     Range(usize),
     // The first byte after the end command, or the sheet's length where no end command stands.
     Ending(usize),
+    // A letter or a command, the first by its index or offset, that needs an inverse of q, which has none.
+    NoInverse(usize),
 }
 
 // Document 01's number of a refusal.
@@ -59,6 +61,7 @@ pub fn number_of(why: Refusal) -> u8
         Refusal::Order(_) => 12,
         Refusal::Range(_) => 13,
         Refusal::Ending(_) => 14,
+        Refusal::NoInverse(_) => 15,
     }
 }
 
@@ -83,6 +86,7 @@ pub fn place_of(why: Refusal) -> usize
         Refusal::Order(at) => at,
         Refusal::Range(at) => at,
         Refusal::Ending(at) => at,
+        Refusal::NoInverse(at) => at,
     }
 }
 

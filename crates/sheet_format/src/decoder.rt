@@ -42,6 +42,7 @@ fn row_of(code: u8, x: &[u8]) -> Row
         0x31 => Row::Known(Command::Change(Update::Product(first, second, third)), 3),
         0x32 => Row::Known(Command::Change(Update::Sum(first, second, third)), 3),
         0x33 => Row::Known(Command::Change(Update::Scale(first, number(x, 1, 8))), 9),
+        0x34 => Row::Known(Command::Change(Update::InverseLetter(first, letter)), 2),
         0x40 => Row::Known(Command::Show(Query::Register(first)), 1),
         0x41 => Row::Known(Command::Show(Query::Pairing(first, second)), 2),
         0x42 => Row::Known(Command::Show(Query::Equality(first, second)), 2),

@@ -24,6 +24,8 @@ pub enum Update {
     Set(usize, usize, u64),
     // A register times a generator T_i.
     Letter(usize, u8),
+    // A register times the inverse of a generator T_i.
+    InverseLetter(usize, u8),
     // The first register becomes the product of the second and the third.
     Product(usize, usize, usize),
     // The first register becomes the sum of the second and the third.
