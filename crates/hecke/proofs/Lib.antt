@@ -7,6 +7,7 @@ mod Moved
 mod LowRanks
 mod LetterCut
 mod WordAction
+mod SignedAction
 -- the action of T_a(j,l)
 mod Pieces
 mod Levels
