@@ -38,9 +38,11 @@ slice-write-x-2 c = let first = c .before .before in let at = at-loop first in
 loop-again : tie.Need-loop-again Inv-loop μ-loop
 unfolding modulus exchanging
 loop-again c =
-    let first = c .before .before in let at = at-loop first in
-    (omega arith, paired-more _ _ _ (start at .pre) (at .loop .i - 1) _ _ (at .loop .inv .1) (omega arith) (omega arith) (first .mul .ensures)
-    (c .add .ensures ∙ ap (words .add _) (c .before .mul2 .ensures)))
+    let first = c .before .before in let at = at-loop first in (
+      omega arith,
+      paired-more _ _ _ (start at .pre) (at .loop .i - 1) _ _ (at .loop .inv .1) (omega arith) (omega arith) (first .mul .ensures)
+          (c .add .ensures ∙ ap (words .add _) (c .before .mul2 .ensures)),
+    )
 
 same-length : tie.Need-same-length Inv-loop μ-loop
 same-length c = c .before .loop .inv .1 .same
