@@ -124,11 +124,13 @@ def inverse_letters():
         yield f'undoes_its_letter_at_q_{name}', sheet(2, q, two_elements(2), both, show(1))
     third = pow(3, -1, WORD)
     alone = add(1, 0, 3) + letter(1, 2) + scale(1, third) + add(2, 0, 3) + scale(2, third - 1) + add(1, 1, 2)
-    yield 'is_two_scalings_a_letter_and_a_sum', sheet(2, 3, element(random.Random(2), 2, 0), alone, inverse_letter(0, 2), equal(0, 1), show(0))
+    both = element(random.Random(2), 2, 0), alone, inverse_letter(0, 2), equal(0, 1), show(0)
+    yield 'is_two_scalings_a_letter_and_a_sum', sheet(2, 3, *both)
     for word in ((1, -2), (-2, 1), (-1, 2), (-1, -2)):
         name = '_then_'.join(f'{"inverse_" if i < 0 else ""}{abs(i)}' for i in word)
         yield f'{name}_on_the_right', sheet(2, 3, unit(0), braid(0, word), show(0))
-    for name, m, one, other in (('braid_relation', 2, (-1, -2, -1), (-2, -1, -2)), ('braid_relation_of_both_kinds', 2, (1, 2, -1), (-2, 1, 2)),
+    for name, m, one, other in (('braid_relation', 2, (-1, -2, -1), (-2, -1, -2)),
+                                ('braid_relation_of_both_kinds', 2, (1, 2, -1), (-2, 1, 2)),
                                 ('distant_letters_commute', 3, (1, -3), (-3, 1))):
         start = loaded(m) + add(1, 0, 2) + add(3, 0, 2)
         yield name, sheet(m, BYTES + 1, start, braid(1, one), braid(3, other), show(1), equal(1, 3))

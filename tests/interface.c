@@ -448,7 +448,8 @@ static void runs(void) {
     GIVES(hecke_run_sheet(LIST(example), REGISTERS(2880), ANSWER), ZEROS, REGISTER_IS(0, 3, 2), ANSWERS(6));
     GIVES(hecke_run_sheet(LIST(all), REGISTERS(2880), ANSWER), ZEROS, REGISTER_IS(0, 0, 1), REGISTER_IS(1, 3, 2),
           REGISTER_IS(2, 15, 15), REGISTER_IS(3, 1, 7), ANSWERS(16));
-    GIVES(hecke_run_sheet(LIST(both), REGISTERS(2880), ANSWER), ZEROS, REGISTER_IS(0, 1), REGISTER_IS(1, FIGURE_EIGHT), ANSWERS(54));
+    GIVES(hecke_run_sheet(LIST(both), REGISTERS(2880), ANSWER), ZEROS, REGISTER_IS(0, 1), REGISTER_IS(1, FIGURE_EIGHT),
+          ANSWERS(54));
     GIVES(hecke_run_sheet(LIST_PART(SHEET(5, 0x00)), REGISTERS(2880), ANSWER), ZEROS, ANSWERS(0));
     /* word 719 of register 3 is the last of all, and its bytes stand lowest first */
     GIVES(hecke_run_sheet(LIST_PART(SHEET(5, 0x21, 3, 0xcf, 2, 1, 2, 0, 0, 0, 0, 0, 0x80, 0)), REGISTERS(2880), ANSWER),

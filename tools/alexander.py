@@ -3,18 +3,18 @@
 
     tools/alexander.py PLAIN INVERSE [FILE]
 
-PLAIN and INVERSE are the numbers of letters of each kind in the braid word, which acted on the unit. Of what was printed the first
-register shown counts; without FILE, standard input is read. The exit status is 1 where no register was shown, where q is below 2
-or too large for so many letters, and where the coefficients are not those of such a braid; else 0.
+PLAIN and INVERSE are the numbers of letters of each kind in the braid word, which acted on the unit. Of what was printed, the
+first register shown counts; without FILE, standard input is read. The exit status is 1 where no register was shown, where q is
+below 2 or too large for so many letters, and where the coefficients are not those of such a braid; else 0.
 
 The reduced Burau matrix of a generator s_i is S: the unit matrix but for row i, with t, -t and 1 around the diagonal. It has
-S S = (1 - t) S + t, so that -S at t = q is a matrix for T_i. The sum over w of w's coefficient times the matrices along w's standard
-word is, up to the sign of an odd number of letters, the braid's matrix B; det(1 - B) is (1 + q + .. + q^m) A(q), up to a sign and a
-power of q, where A is the Alexander polynomial.
+S S = (1 - t) S + t, so that -S at t = q is a matrix for T_i. The sum over w of w's coefficient times the matrices along w's
+standard word is, up to the sign of an odd number of letters, the braid's matrix B; det(1 - B) is (1 + q + .. + q^m) A(q), up to
+a sign and a power of q, where A is the Alexander polynomial.
 
-All this is modulo 2^64. Times q for each inverse letter it is a polynomial in q with whole coefficients. The absolute values in a
-row of S, or of q times its inverse, add up to at most 2q + 1, and so they do in its matrices of minors: the polynomial's value is
-at most 2^m (2q + 1)^letters, and where this is below 2^63 the word gives the value itself.
+All this is modulo 2^64. Times q for each inverse letter it is a polynomial in q with whole coefficients. The absolute values in
+a row of S, or of q times its inverse, add up to at most 2q + 1, and so they do in its matrices of minors: the polynomial's value
+is at most 2^m (2q + 1)^letters, and where this is below 2^63 the word gives the value itself.
 """
 import sys
 from math import prod

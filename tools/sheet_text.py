@@ -130,7 +130,8 @@ def to_text(sheet):
         if r is None or len(row) == 1:
             lines += map(line_of, row)
         else:
-            lines.append(' '.join(map(str, ['letters', r, *(('-' if one.code == INVERSE else '') + str(one.operands['i']) for one in row)])))
+            signed = [f'{"-" if one.code == INVERSE else ""}{one.operands["i"]}' for one in row]
+            lines.append(' '.join(['letters', str(r), *signed]))
     if at < len(sheet):
         lines.append(' '.join(['bytes', *(f'{x:#04x}' for x in sheet[at:])]))
     why = refusal(sheet)

@@ -41,8 +41,8 @@ def commands_of(sheet):
 
 
 def faults(sheet):
-    """Every condition of document 01's table, and 15, that holds in the sheet, with its place, in the order of the table: up to the
-    end command, or to what cannot be read as a command."""
+    """Every condition of document 01's table, and 15, that holds in the sheet, with its place, in the order of the table: up to
+    the end command, or to what cannot be read as a command."""
     if not 1 <= len(sheet) <= s.MOST_BYTES:
         yield 9, 0
     at, m, q = 0, sheet[1] if len(sheet) > 1 else 0, int.from_bytes(sheet[2:10], 'little')
@@ -182,15 +182,16 @@ class Commands(Kit):
         self.assertLessEqual({((l * factorial(j), 1),) for j in (1, 2, 3) for l in range(1, j + 1)}, taken)
 
     def test_mirror_words_bring_home_at_each_rank(self):
-        """A word of both kinds of letters on one register, and its mirror word read backwards; the register is compared with another
-        before and after the second, and only then equal."""
-        for m in RANKS[1:]:
-            sheets = [name for name in self.valid if self.valid[name][0].operands['m'] == m and self.there_and_back(self.valid[name])]
-            self.assertTrue(any(self.texts[name].splitlines()[-3:-1] == ['Q 0', 'Q 1'] for name in sheets), m)
+        """A word of both kinds of letters on one register, and its mirror word read backwards; the register is compared with
+        another before and after the second, and only then equal."""
+        sheets = [name for name, commands in self.valid.items() if self.there_and_back(commands)]
+        home = [self.texts[name] for name in sheets if self.texts[name].splitlines()[-3:-1] == ['Q 0', 'Q 1']]
+        self.assertEqual({int(text.split()[1]) for text in home}, set(RANKS[1:]))
 
     def there_and_back(self, commands):
         """Whether the sheet's last letters are a word of 15, of both kinds, and its mirror word read backwards."""
-        signed = [(1 if one.code == s.LETTER else -1) * one.operands['i'] for one in commands if one.code in (s.LETTER, s.INVERSE)]
+        sign = {s.LETTER: 1, s.INVERSE: -1}
+        signed = [sign[one.code] * one.operands['i'] for one in commands if one.code in sign]
         word = signed[-30:-15]
         return {i > 0 for i in word} == {True, False} and signed[-15:] == mirror(word)
 

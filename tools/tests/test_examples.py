@@ -11,15 +11,16 @@ from pathlib import Path
 
 from reference.algebra import WORD, mirror
 from reference.sheet import printed
-from tools.alexander import closure, combined, described, determinant, digits, identity, image, polynomial, shown, times, value
+from tools.alexander import (closure, combined, described, determinant, digits, identity, image, polynomial, shown, times,
+                             value)
 from tools.sheet_text import to_bytes
 
 ROOT = Path(__file__).resolve().parents[2]
 EXAMPLES = ROOT / 'examples'
 PARAMETERS = 3, 5, 7, 101, 0x9E37_79B9_7F4A_7C15, WORD - 5
 
-# braids of knots, with the coefficients of their Alexander polynomials, from the tables of knots; the number of strands is one more
-# than the largest letter
+# braids of knots, with the coefficients of their Alexander polynomials, from the tables of knots; the number of strands is one
+# more than the largest letter
 TREFOIL, FIGURE_EIGHT, FIVE_TWO = (1, 1, 1), (1, -2, 1, -2), (1, 1, 1, 2, -1, 2)
 KNOTS = {
     (1,): (1,), (1, -2): (1,), TREFOIL: (1, -1, 1), FIGURE_EIGHT: (1, -3, 1), (1,) * 5: (1, -1, 1, -1, 1), FIVE_TWO: (2, -3, 2),
@@ -82,7 +83,8 @@ class Polynomials(unittest.TestCase):
     def test_whole_values(self):
         for word, coefficients in KNOTS.items():
             for q in (3, 11, 41):
-                self.assertEqual(value(*shown(printed(to_bytes(text_of(word, q)))), *kinds(word)), abs(at(coefficients, q)), (word, q))
+                found = shown(printed(to_bytes(text_of(word, q))))
+                self.assertEqual(value(*found, *kinds(word)), abs(at(coefficients, q)), (word, q))
 
     def test_coefficients(self):
         """At q = 41, above twice each coefficient, the digits are the coefficients; a mirror image has the same."""
@@ -93,7 +95,8 @@ class Polynomials(unittest.TestCase):
 
     def test_plain_letters_at_even_q(self):
         text = printed(to_bytes(text_of(TREFOIL, 10)))
-        self.assertEqual(described(text, 3, 0), 'value at t = 10: 91\npolynomial, if each coefficient is from -4 to 5: t^2 - t + 1\n')
+        read = 'polynomial, if each coefficient is from -4 to 5: t^2 - t + 1'
+        self.assertEqual(described(text, 3, 0), f'value at t = 10: 91\n{read}\n')
 
     def test_as_it_is_written(self):
         for coefficients, text in (((), '0'), ((0, 0), '0'), ((1,), '1'), ((-1,), '-1'), ((0, 1), 't'), ((2, -1), '-t + 2'),
@@ -110,7 +113,8 @@ class Polynomials(unittest.TestCase):
     def test_refused(self):
         text = printed(to_bytes(text_of(FIVE_TWO, 101)))
         for given, plain, inverse, wrong in (
-                ('', 0, 0, 'no register is shown'), ('E 9 0\n', 0, 0, 'no register is shown'), ('H 1 3\nN 0\n', 0, 0, 'no register is shown'),
+                ('', 0, 0, 'no register is shown'), ('E 9 0\n', 0, 0, 'no register is shown'),
+                ('H 1 3\nN 0\n', 0, 0, 'no register is shown'),
                 (text, 4, 1, 'the coefficients are not those of a braid with 4 plain and 1 inverse letters'),
                 (text, 7, 2, 'q = 101 is below 2, or too large for 9 letters of rank 2'),
                 ('H 1 1\nR 0\n0 1\nN 0\n', 0, 0, 'q = 1 is below 2, or too large for 0 letters of rank 1')):
@@ -154,7 +158,8 @@ class Examples(unittest.TestCase):
 
 class CommandLine(unittest.TestCase):
     def run_tool(self, *arguments, given=''):
-        done = subprocess.run([sys.executable, str(ROOT / 'tools' / 'alexander.py'), *arguments], input=given, capture_output=True, text=True)
+        tool = [sys.executable, str(ROOT / 'tools' / 'alexander.py')]
+        done = subprocess.run([*tool, *arguments], input=given, capture_output=True, text=True)
         return done.returncode, done.stdout, done.stderr
 
     def test_file_and_standard_input(self):

@@ -66,6 +66,11 @@ class Tables(unittest.TestCase):
         for name, code in CODES.items():
             self.assertIn(f'\n| `{FORMS[name]}` | `{code:02x}` | {1 + sum(OPERANDS[code].values())} | ', GUIDE)
 
+    def test_refusals(self):
+        """The numbers in the order of the checks, and a section for each in its own order."""
+        self.assertEqual(re.findall(r'^\| `(\d+)` \|', GUIDE, re.MULTILINE), ['9', '10', '11', '12', '13', '15', '14'])
+        self.assertEqual(re.findall(r'^### (\d+): ', GUIDE, re.MULTILINE), [str(number) for number in range(9, 16)])
+
     def test_numbers(self):
         """Every row that starts with a number: the indexes and the counts."""
         rows = []
@@ -100,7 +105,8 @@ class Tables(unittest.TestCase):
         self.assertIn('\n\n' + ''.join(f'    {line}\n' for line in said.splitlines()) + '\n', GUIDE)
         eight = 'begin 2 {}\nunit 0\nletters 0 1 -2 1 -2\nshow 0\nend'
         small, large = (value(*shown(printed(to_bytes(eight.format(q)))), 2, 2) for q in (3, 101))
-        self.assertIn(f'At q = 3 the figure-eight has the value {small}, as the ring without a knot has; at q = 101 it has {large}', sentences)
+        self.assertIn(f'At q = 3 the figure-eight has the value {small}, as the ring without a knot has', sentences)
+        self.assertIn(f'at q = 101 it has {large}, and the polynomial is t^2 - 3 t + 1.', sentences)
         [[t]], (_, q, element) = image(1, 3, 1), shown((ROOT / 'examples' / 'trefoil.expected').read_text())
         total = element[0] + element[1] * t
         self.assertIn(f'{element[0]} + {element[1]} T_1 gives {element[0]} + {element[1]} · {t} = {total}', sentences)

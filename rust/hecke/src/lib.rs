@@ -188,8 +188,8 @@ pub fn act_word(m: usize, q: u64, word: &[u8], element: &mut [u64]) -> Result<u6
     .map(|[count]| count)
 }
 
-/// Changes an element of rank m by a word of signed letters, left to right, and answers the count: the letter i is T_i, and -i its
-/// inverse, for odd q. The mirror word read backwards undoes a word.
+/// Changes an element of rank m by a word of signed letters, left to right, and answers the count: the letter i is T_i, and -i
+/// its inverse, for odd q. The mirror word read backwards undoes a word.
 ///
 /// ```
 /// let mut element = [1, 0];
