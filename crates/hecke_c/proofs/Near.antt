@@ -3,6 +3,7 @@
 use mathlib.Core.Path.{_≡_, sym, subst}
 use mathlib.Core.List.{List}
 use Prim.Native.Nat.{ℕ, _≤_}
+use lib.IntN.{ℤ}
 use Rattle.refusals.specs.Refusals.{Report, verdictReport, answerReport, reported, Outcome, Keeps}
 use Rattle.refusals.specs.declared.Verdict.{Verdict}
 use Rattle.refusals.specs.declared.Verdict.the-variants.{Accepted, Refused}
@@ -11,7 +12,7 @@ use Rattle.perm_calls.specs.Calls.{towerOfCall, imagesOfCall, inverseCall, prod
 use Rattle.perm_calls.specs.declared.Counted.{Counted}
 use Rattle.perm_calls.specs.declared.Generators.{Generators}
 use Rattle.perm_calls.proofs.Refusals as perms
-use Rattle.element_calls.specs.Calls.{Buffers, sumCall, scaleCall, actWordCall}
+use Rattle.element_calls.specs.Calls.{Buffers, sumCall, scaleCall, actWordCall, actSignedWordCall}
 use Rattle.element_calls.specs.Calls as elements
 use Rattle.element_calls.proofs.Refusals as elements-refuse
 use Rattle.sheet.specs.Check.{checkSheet}
@@ -66,6 +67,10 @@ module _ {a : Answer} {lent : List ℕ} where
 
   pub act-word-near : (m q : ℕ) (x h : List ℕ) → actWordCall m q x h ≡ record { answer = a; lent = lent } → verdictReport (a .verdict) .place ≤ 4096
   act-word-near m q x h e = verdict-near a (near answerReport e (elements-refuse.refusals .act-word m q x h))
+
+  pub act-signed-word-near : (m q : ℕ) (x : List ℤ) (h : List ℕ) → actSignedWordCall m q x h ≡ record { answer = a; lent = lent }
+      → verdictReport (a .verdict) .place ≤ 4096
+  act-signed-word-near m q x h e = verdict-near a (near answerReport e (elements-refuse.refusals .act-signed-word m q x h))
 
   pub run-near : (s x : List ℕ) → runCall s x ≡ record { answer = a; lent = lent } → verdictReport (a .verdict) .place ≤ 4096
   run-near s x e = verdict-near a (near answerReport e (runs s .lent x))

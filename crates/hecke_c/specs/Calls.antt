@@ -5,12 +5,13 @@
 --   towerOfImages, .., runSheet   the calls hecke_tower_of_images to hecke_run_sheet, in the order of include/hecke.h
 use mathlib.Core.List.{List, [], _∷_}
 use Prim.Native.Nat.{ℕ}
+use lib.IntN.{ℤ}
 use Rattle.refusals.specs.Refusals.{verdictReport, answerReport, Outcome}
 use Rattle.refusals.specs.declared.Verdict.{Verdict}
 use Rattle.refusals.specs.declared.Answer.{Answer}
 use Rattle.perm_calls.specs.Calls.{towerOfCall, imagesOfCall, inverseCall, productCall, lengthCall, standardWordCall, descentsCall, countedReport, generatorsReport, generatorsMask}
 use Rattle.perm_calls.specs.declared.Counted.{Counted}
-use Rattle.element_calls.specs.Calls.{Buffers, sumCall, scaleCall, actWordCall}
+use Rattle.element_calls.specs.Calls.{Buffers, sumCall, scaleCall, actWordCall, actSignedWordCall}
 use Rattle.element_calls.specs.Calls as elements
 use Rattle.sheet.specs.Check.{checkSheet}
 use Rattle.runner.specs.Run.{runCall}
@@ -61,6 +62,9 @@ scale m c element result answer = answerCall (scaleCall m c element result) answ
 
 abbrev pub actWord : (m q : ℕ) (word element answer : List ℕ) → Answered (List ℕ)
 actWord m q word element answer = answerCall (actWordCall m q word element) answer
+
+abbrev pub actSignedWord : (m q : ℕ) (word : List ℤ) (element answer : List ℕ) → Answered (List ℕ)
+actSignedWord m q word element answer = answerCall (actSignedWordCall m q word element) answer
 
 abbrev pub product : (m q : ℕ) (left right result scratch answer : List ℕ) → Answered Buffers
 product m q left right result scratch answer = answerCall (elements.productCall m q left right result scratch) answer

@@ -6,7 +6,7 @@
 
 ghost use mathlib.Core.Path.{_≡_};
 ghost use Rattle.ranks.specs.Ranks.{size, scratchSize};
-ghost use Rattle.hecke_c.specs.Calls.{towerOfImages, imagesOfTower, towerInverse, towerProduct, towerLength, towerWord, towerDescents, sum, scale, actWord, product, sheetCheck, runSheet};
+ghost use Rattle.hecke_c.specs.Calls.{towerOfImages, imagesOfTower, towerInverse, towerProduct, towerLength, towerWord, towerDescents, sum, scale, actWord, actSignedWord, product, sheetCheck, runSheet};
 
 mod returned;
 
@@ -131,6 +131,24 @@ pub extern "C" fn hecke_act_word(
         ≡ record { word = w; lent = now (element .exit); answer = now (answer .exit) } ⌝ }
 {
     let done = hecke::act_word(m, q, word, element);
+    let verdict = done.verdict;
+    returned::answered(verdict, done.count, answer)
+}
+
+// The word's signed letters act on the element of rank m, left to right, -i as the inverse of T_i; the answer is its count.
+// Example: of rank 1 with q = 3, the word 1 -1 leaves 1 0 as it is; it returns 0 and answers 6. For q = 2 it returns 15 + 256.
+#[no_mangle]
+pub extern "C" fn hecke_act_signed_word(
+    m: usize,
+    q: u64,
+    word: &[i8],
+    element: &mut [u64],
+    answer: &mut [u64],
+) -> u64
+    ensures { λ w. ⌜ actSignedWord m q (now (word .entry)) (now (element .entry)) (now (answer .entry))
+        ≡ record { word = w; lent = now (element .exit); answer = now (answer .exit) } ⌝ }
+{
+    let done = hecke::act_signed_word(m, q, word, element);
     let verdict = done.verdict;
     returned::answered(verdict, done.count, answer)
 }

@@ -1,10 +1,11 @@
 // Reads calls of `hecke`, runs them, and writes a line for each: the call's answer and then what its slices hold.
 // The stored input and output are made by the reference program.
 //
-// A call is a byte, from 1 for sum to 4 for product in the order of `run`, and any other byte is a product too; the rank in a
-// byte; the word q or c; two lists of words; the word of letters; and the sizes of the lent result and scratch. A list is its
-// size and then its words, or letters. A size is two bytes, a word eight, the lowest byte first. A word action changes the
-// first list. Each word of the result and the scratch is 170 before the call.
+// A call is a byte: 1 for sum, 2 for scaling, 3 for the action of a word, 5 for that of a word of signed letters, and any other
+// for a product; the rank in a byte; the word q or c; two lists of words; the word of letters; and the sizes of the lent result
+// and scratch. A list is its size and then its words, or letters. A size is two bytes, a word eight, the lowest byte first; a
+// signed letter is a byte by two's complement. A word action changes the first list. Each word of the result and the scratch
+// is 170 before the call.
 //
 // A line is A and the count, or E with the number, the place and the count of the refusal, which is 0; then the slice that the
 // call writes; for a product also the digest of the scratch. A slice of over 120 words is written as its digest.
@@ -107,6 +108,36 @@ fn run_word(m: usize, q: u64, word: &[u8], element: &mut [u64]) {
     print_words(element);
 }
 
+// The signed letter of a byte, by two's complement.
+fn letter_of(byte: u8) -> i8 {
+    if byte < 128 {
+        return byte as i8;
+    }
+    let below = (255 - byte) as i8;
+    -1 - below
+}
+
+// The signed letters of the bytes, where there is room for them.
+fn put_letters(letters: &mut [i8], bytes: &[u8]) {
+    if letters.len() < bytes.len() {
+        return;
+    }
+    for i in 0..bytes.len() {
+        letters[i] = letter_of(bytes[i]);
+    }
+}
+
+fn run_signed_word(m: usize, q: u64, bytes: &[u8], element: &mut [u64]) {
+    let mut letters = [0i8; 4097];
+    let n = bytes.len();
+    if 4097 < n {
+        return;
+    }
+    put_letters(&mut letters, bytes);
+    print_answer(hecke::act_signed_word(m, q, &letters[0..n], element));
+    print_words(element);
+}
+
 fn run_product(
     m: usize,
     q: u64,
@@ -134,6 +165,7 @@ fn run(
         1 => run_sum(m, left, right, result),
         2 => run_scale(m, q, left, result),
         3 => run_word(m, q, word, left),
+        5 => run_signed_word(m, q, word, left),
         _ => run_product(m, q, left, right, result, scratch),
     }
 }
