@@ -13,3 +13,7 @@ pub mod Answers
 pub mod Accepts
 -- demand 3
 pub mod Demand3
+-- words of signed letters
+pub mod PlainCalls
+pub mod NoInverses
+pub mod SignedCalls
