@@ -16,4 +16,7 @@ pub mod Demand3
 -- words of signed letters
 pub mod PlainCalls
 pub mod NoInverses
+pub mod SignedHome
+pub mod InverseCalls
+pub mod SignedCounts
 pub mod SignedCalls

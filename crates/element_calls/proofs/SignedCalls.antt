@@ -1,116 +1,58 @@
--- The claims on the action of words of signed letters hold. Rests on Answers, SignedVerdicts, PlainCalls, NoInverses and Demand3, signed_words'
--- SignedModular, Mirrors, PlainWords and BackCounts, inverses' Search and Odd, and algebra's Modular, Counts and Letters.
-use mathlib.Core.Path.{_≡_, refl, sym, ap, _∙_, subst}
+-- The claims on the action of words of signed letters hold. Rests on SignedHome, InverseCalls, SignedCounts, PlainCalls, NoInverses and Answers.
+use mathlib.Core.Path.{_≡_, ap, subst}
 use mathlib.Core.Logic.{_⊎_, inl, inr}
 use mathlib.Core.Bool.{true}
-use mathlib.Core.List.{List, [], _∷_, map}
-use Prim.Native.Nat.{ℕ, zero, suc, _*_, _%_, _≤_, _<_}
+use mathlib.Core.List.{List, [], _∷_}
+use Prim.Native.Nat.{ℕ, _%_, _≤_, _<_}
 use native.Mathlib.Omega.{arith}
-use lib.ListN.{length}
-use lib.IntN.{ℤ, pos, negsuc, negℤ, negℤ-negℤ, natAbs}
-use Rattle.ring.specs.Modular.{wordModulus, words}
-use Rattle.lists.specs.Numbers.{factorial}
-use Rattle.inverses.specs.Inverses.{IsInverse, hasInverse}
-use Rattle.inverses.proofs.Search.{inverses}
-use Rattle.inverses.proofs.Odd.{word-inverses}
-use Rattle.refusals.specs.Refusals.{ended}
-use Rattle.refusals.specs.declared.Verdict.{Verdict}
-use Rattle.refusals.specs.declared.Verdict.the-variants.{Accepted, Refused}
+use lib.IntN.{ℤ, pos, negℤ, negℤ-negℤ}
+use Rattle.ring.specs.Modular.{wordModulus}
+use Rattle.inverses.specs.Inverses.{hasInverse}
 use Rattle.perms.specs.Permutation.{Letter}
-use Rattle.perms.specs.Tower.{cycle}
-use Rattle.algebra.specs.Element.{Element, unit, T}
-use Rattle.algebra.specs.Product.{act}
-use Rattle.algebra.specs.Nested.{operations}
-use Rattle.algebra.specs.Laws.{Closed, defined}
-use Rattle.algebra.proofs.Modular.{below, word-closed, word-method}
-use Rattle.algebra.proofs.Counts.{counts}
-use Rattle.algebra.proofs.Letters.{letters}
-use Rattle.signed_words.specs.InverseLetter.{inverseT}
-use Rattle.signed_words.specs.Words.{SignedLetter, SignedWord, mirror, signedLetter, signedAct}
-use Rattle.signed_words.specs.Laws.{Signed, SignedClosed}
-use Rattle.signed_words.proofs.Mirrors.{mirrored, mirror-length}
-use Rattle.signed_words.proofs.PlainWords.{plain-word}
-use Rattle.signed_words.proofs.BackCounts.{back-counts}
-use Rattle.signed_words.proofs.SignedModular.{word-signed, word-signed-closed}
-use Rattle.element_calls.specs.Coefficients.{modulus, parametersOf, inverseParameters}
-use Rattle.element_calls.specs.Calls.{signedVerdict, write, actSignedWordCall}
-use Rattle.element_calls.specs.Claims.{Taken, NoneBelow}
-use Rattle.element_calls.specs.Demand3.{E, Lawful}
-use Rattle.element_calls.specs.SignedCalls.{Home, Makes, counted, SignedLawful, SignedCalls}
-use Rattle.element_calls.proofs.SignedVerdicts.{signed-accepted, signed-taken}
-use Rattle.element_calls.proofs.Answers.{signed-verdict, signed-lent, signed-counted}
+use Rattle.signed_words.specs.Words.{mirror}
+use Rattle.signed_words.proofs.Mirrors.{mirrored}
+use Rattle.element_calls.specs.Coefficients.{modulus}
+use Rattle.element_calls.specs.Claims.{NoneBelow}
+use Rattle.element_calls.specs.Demand3.{E}
+use Rattle.element_calls.specs.SignedCalls.{Home, SignedLawful, SignedCalls}
+use Rattle.element_calls.proofs.Answers.{signed-counted}
 use Rattle.element_calls.proofs.PlainCalls.{plain-call}
 use Rattle.element_calls.proofs.NoInverses.{no-inverse}
-use Rattle.element_calls.proofs.Demand3.{demand-3}
-
--- what a call leaves, as it was or new
-pub write-either : {A : Type 0} (P : A → Type 0) (v : Verdict) (old new : A) (n : ℕ) → P old → (v ≡ Accepted → P new) → P (write v old new n .lent)
-unfolding ended
-write-either P Accepted old new n a b = b refl
-write-either P (Refused why) old new n a b = a
+use Rattle.element_calls.proofs.SignedHome.{has, odd, takes, closes, homes}
+use Rattle.element_calls.proofs.InverseCalls.{is-made, left-made, right-made}
+use Rattle.element_calls.proofs.SignedCounts.{letter-counted, letter-valued}
 
 module _ (m q : ℕ) (rank : m ≤ 6) (hq : q < wordModulus) where
-  abbrev r : ℕ
-  r = parametersOf q .r
+  either : (x : List ℤ) → (q % 2 ≡ 1) ⊎ NoneBelow x → NoneBelow x ⊎ (hasInverse wordModulus q ≡ true)
+  either x (inl o) = inr (odd m q rank hq o)
+  either x (inr w) = inl w
 
-  abbrev q' : ℕ
-  q' = inverseParameters q .q
+  undone : q % 2 ≡ 1 → (i : ℕ) (h : List ℕ) → Letter m i → E m q h → Home m q (pos i ∷ []) (negℤ (pos i) ∷ []) h
+  unfolding mirror
+  undone o i h l a = homes m q rank hq o (pos i ∷ []) h (l, tt) (omega arith) a
 
-  abbrev r' : ℕ
-  r' = inverseParameters q .r
+  redone : q % 2 ≡ 1 → (i : ℕ) (h : List ℕ) → Letter m i → E m q h → Home m q (negℤ (pos i) ∷ []) (pos i ∷ []) h
+  unfolding mirror
+  redone o i h l a = subst (λ z. Home m q (negℤ (pos i) ∷ []) (z ∷ []) h) (negℤ-negℤ (pos i))
+      (homes m q rank hq o (negℤ (pos i) ∷ []) h (mirrored m (pos i ∷ []) (l, tt)) (omega arith) a)
 
-  abbrev ok : ℕ → Type 0
-  ok n = n < wordModulus
-
-  -- ---- with an inverse
-
-  has : hasInverse wordModulus q ≡ true → IsInverse wordModulus q q'
-  has e = inverses wordModulus q hq .is e
-
-  closed-by : hasInverse wordModulus q ≡ true → SignedClosed ℕ words q r q' r' ok m
-  closed-by e = word-signed-closed m hq (has e .below)
-
-  signed-by : hasInverse wordModulus q ≡ true → Signed ℕ words q r q' r' ok m
-  signed-by e = word-signed m hq (has e .below) (has e .product)
-
-  odd : q % 2 ≡ 1 → hasInverse wordModulus q ≡ true
-  odd e = word-inverses q hq .odd e
-
-  -- ---- what is taken, and that it writes elements
-
-  takes : (x : List ℤ) (h : List ℕ) → SignedWord m x → length x ≤ 4096 → E m q h → NoneBelow x ⊎ (hasInverse wordModulus q ≡ true)
-      → Taken (actSignedWordCall m q x h .answer)
-  takes x h w n a c = signed-verdict m q x h ∙ signed-taken m (length h) q x rank (a .size) w n c
-
-  writes : (x : List ℤ) (h : List ℕ) → Taken (actSignedWordCall m q x h .answer) → actSignedWordCall m q x h .lent ≡ signedAct ℕ words q r q' r' m x h
+  signed-lawful : SignedLawful m q
   unfolding modulus
-  writes x h t = signed-lent m q x h t
-
-  closes : (x : List ℤ) (h : List ℕ) → E m q h → E m q (actSignedWordCall m q x h .lent)
-  unfolding modulus actSignedWordCall
-  closes x h a = write-either (E m q) (signedVerdict m (length h) q x) h _ _ a (λ e. go (signed-accepted m (length h) q x e .4))
-    where
-      go : NoneBelow x ⊎ (hasInverse wordModulus q ≡ true) → Element ok m (signedAct ℕ words q r q' r' m x h)
-      go (inl w) = subst (Element ok m) (sym (plain-word ℕ words q r m q' r' x h w)) (word-closed m q hq .act (map natAbs x) h a)
-      go (inr e) = closed-by e .signed-act x h a
-
-  -- ---- home
-
-  homes : q % 2 ≡ 1 → (x : List ℤ) (h : List ℕ) → SignedWord m x → length x ≤ 4096 → E m q h → Home m q x (mirror x) h
-  homes o x h w n a = record {
-    first-taken = one;
-    second-taken = two;
-    home = writes (mirror x) g two ∙ ap (signedAct ℕ words q r q' r' m (mirror x)) (writes x h one) ∙ signed-by (odd o) .home x w h (element a);
+  signed-lawful = record {
+    taken = λ x h w n a c. takes m q rank hq x h w n a (either x c);
+    closed = closes m q rank hq;
+    home = homes m q rank hq;
+    undo = undone;
+    redo = redone;
+    inverse = λ o. has m q rank hq (odd m q rank hq o);
+    is-product = is-made m q rank hq;
+    left = left-made m q rank hq;
+    right = right-made m q rank hq;
+    count = signed-counted m q;
+    letter-count = letter-counted m q;
+    letter-value = letter-valued m q rank hq;
   }
-    where
-      g : List ℕ
-      g = actSignedWordCall m q x h .lent
 
-      one : Taken (actSignedWordCall m q x h .answer)
-      one = takes x h w n a (inr (odd o))
-
-      two : Taken (actSignedWordCall m q (mirror x) g .answer)
-      two = takes (mirror x) g (mirrored m x w) (omega (arith, mirror-length x)) (closes x h a) (inr (odd o))
-
-      element : E m q h → Element ok m h
-      element a = unfold modulus in a
+pub signed-calls : SignedCalls
+unfolding modulus
+signed-calls = record { lawful = signed-lawful; plain = plain-call; no-inverse = no-inverse }
