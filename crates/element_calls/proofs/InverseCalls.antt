@@ -1,6 +1,6 @@
 -- For odd q the call with the letter -i writes the product with t' i = q' T_i + (q' - 1), and t' i is the inverse of T_i. Rests on SignedHome, Demand3,
 -- Answers and algebra's Modular.
-use mathlib.Core.Path.{_≡_, refl, sym, _∙_}
+use mathlib.Core.Path.{_≡_, sym, _∙_}
 use mathlib.Core.Logic.{inr}
 use mathlib.Core.List.{List, [], _∷_}
 use Prim.Native.Nat.{ℕ, zero, suc, _%_, _≤_, _<_}

@@ -15,6 +15,7 @@ pub mod Accepts
 pub mod Demand3
 -- words of signed letters
 pub mod PlainCalls
+pub mod Earlier
 pub mod NoInverses
 pub mod SignedHome
 pub mod InverseCalls

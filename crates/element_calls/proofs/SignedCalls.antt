@@ -1,5 +1,5 @@
 -- The claims on the action of words of signed letters hold. Rests on SignedHome, InverseCalls, SignedCounts, PlainCalls, NoInverses and Answers.
-use mathlib.Core.Path.{_≡_, ap, subst}
+use mathlib.Core.Path.{_≡_, subst}
 use mathlib.Core.Logic.{_⊎_, inl, inr}
 use mathlib.Core.Bool.{true}
 use mathlib.Core.List.{List, [], _∷_}
