@@ -1,5 +1,5 @@
 -- Which calls with words of signed letters are taken, that they write elements, and that for odd q a word and then its mirror bring an element home.
--- Rests on Answers, SignedVerdicts, signed_words' SignedModular, Mirrors and PlainWords, inverses' Search and Odd, and algebra's Modular.
+-- Rests on SignedVerdicts, Refusals, Answers, Accepts, signed_words' SignedModular, Mirrors and PlainWords, inverses' Search and Odd, and algebra's Modular.
 use mathlib.Core.Path.{_≡_, refl, sym, ap, _∙_, subst}
 use mathlib.Core.Logic.{_⊎_, inl, inr}
 use mathlib.Core.Bool.{true}
@@ -12,9 +12,10 @@ use Rattle.ring.specs.Modular.{wordModulus, words}
 use Rattle.inverses.specs.Inverses.{IsInverse, hasInverse}
 use Rattle.inverses.proofs.Search.{inverses}
 use Rattle.inverses.proofs.Odd.{word-inverses}
-use Rattle.refusals.specs.Refusals.{ended}
+use Rattle.refusals.specs.Refusals.{reported}
 use Rattle.refusals.specs.declared.Verdict.{Verdict}
 use Rattle.refusals.specs.declared.Verdict.the-variants.{Accepted, Refused}
+use Rattle.refusals.proofs.Verdicts.{number-within}
 use Rattle.algebra.specs.Element.{Element}
 use Rattle.algebra.proofs.Modular.{word-closed}
 use Rattle.signed_words.specs.Words.{SignedWord, mirror, signedAct}
@@ -23,18 +24,14 @@ use Rattle.signed_words.proofs.Mirrors.{mirrored, mirror-length}
 use Rattle.signed_words.proofs.PlainWords.{plain-word}
 use Rattle.signed_words.proofs.SignedModular.{word-signed, word-signed-closed}
 use Rattle.element_calls.specs.Coefficients.{modulus, parametersOf, inverseParameters}
-use Rattle.element_calls.specs.Calls.{signedVerdict, write, actSignedWordCall}
+use Rattle.element_calls.specs.Calls.{actSignedWordCall}
 use Rattle.element_calls.specs.Claims.{Taken, NoneBelow}
 use Rattle.element_calls.specs.Demand3.{E}
 use Rattle.element_calls.specs.SignedCalls.{Home}
-use Rattle.element_calls.proofs.SignedVerdicts.{signed-accepted, signed-taken}
+use Rattle.element_calls.proofs.SignedVerdicts.{signed-taken}
+use Rattle.element_calls.proofs.Refusals.{refusals}
 use Rattle.element_calls.proofs.Answers.{signed-verdict, signed-lent}
-
--- what a call leaves, as it was or new
-write-either : {A : Type 0} (P : A → Type 0) (v : Verdict) (old new : A) (n : ℕ) → P old → (v ≡ Accepted → P new) → P (write v old new n .lent)
-unfolding ended
-write-either P Accepted old new n a b = b refl
-write-either P (Refused why) old new n a b = a
+use Rattle.element_calls.proofs.Accepts.{accepts}
 
 module _ (m q : ℕ) (rank : m ≤ 6) (hq : q < wordModulus) where
   abbrev r : ℕ
@@ -74,12 +71,17 @@ module _ (m q : ℕ) (rank : m ≤ 6) (hq : q < wordModulus) where
   writes x h t = signed-lent m q x h t
 
   pub closes : (x : List ℤ) (h : List ℕ) → E m q h → E m q (actSignedWordCall m q x h .lent)
-  unfolding modulus actSignedWordCall
-  closes x h a = write-either (E m q) (signedVerdict m (length h) q x) h _ _ a (λ e. go (signed-accepted m (length h) q x e .4))
+  unfolding modulus
+  closes x h a = go (actSignedWordCall m q x h .answer .verdict) refl
     where
-      go : NoneBelow x ⊎ (hasInverse wordModulus q ≡ true) → Element ok m (signedAct ℕ words q r q' r' m x h)
-      go (inl w) = subst (Element ok m) (sym (plain-word ℕ words q r m q' r' x h w)) (word-closed m q hq .act (map natAbs x) h a)
-      go (inr e) = closed-by e .signed-act x h a
+      new : NoneBelow x ⊎ (hasInverse wordModulus q ≡ true) → Element ok m (signedAct ℕ words q r q' r' m x h)
+      new (inl w) = subst (Element ok m) (sym (plain-word ℕ words q r m q' r' x h w)) (word-closed m q hq .act (map natAbs x) h a)
+      new (inr e) = closed-by e .signed-act x h a
+
+      go : (v : Verdict) → actSignedWordCall m q x h .answer .verdict ≡ v → E m q (actSignedWordCall m q x h .lent)
+      go Accepted e = subst (E m q) (sym (writes x h e)) (new (accepts .act-signed-word m q x h e .4))
+      go (Refused why) e = subst (E m q) (sym (refusals .act-signed-word m q x h .lent (λ z.
+          absurd (omega (arith, number-within why .0, ap (λ v. reported v (actSignedWordCall m q x h .answer .count) .number) (sym e) ∙ z))))) a
 
   -- ---- home
 
