@@ -13,3 +13,11 @@ pub mod Answers
 pub mod Accepts
 -- demand 3
 pub mod Demand3
+-- words of signed letters
+pub mod PlainCalls
+pub mod Earlier
+pub mod NoInverses
+pub mod SignedHome
+pub mod InverseCalls
+pub mod SignedCounts
+pub mod SignedCalls

@@ -3,3 +3,4 @@ pub mod Calls
 pub mod Steps
 pub mod Claims
 pub mod Demand3
+pub mod SignedCalls
