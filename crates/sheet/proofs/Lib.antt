@@ -1,6 +1,7 @@
 mod Tests
 mod InOrder
 pub mod InRange
+mod Parity
 pub mod Limit
 pub mod CheckFrom
 pub mod Cases
