@@ -77,7 +77,7 @@ module _ (A : Type 0) (o : Ops A) (f : OnPair A) (m j : ℕ) (h : List A) (jm : 
       equal-elements A o (extended k whole l) (has-onPairs A o (has-b k l) f (record { low = omega arith; high = omega arith }))
       (λ u p. P-below f j (m + 2 - k) F u (omega arith))
 
-  in-row : onPairs A o f (suc m) (suc j) h ≡ pairBlocks A o f m B a (suc j) h
+  pub in-row : onPairs A o f (suc m) (suc j) h ≡ pairBlocks A o f m B a (suc j) h
   unfolding factorial blocks
   in-row =
       let n : suc (suc m) ≡ a + (2 + j) = omega arith in

@@ -29,7 +29,7 @@ module _ {A B : Type 0} {o : Ops A} {p : Ops B} {f : A → B} (H : Hom A B o p f
   all-good [] = tt
   all-good (a ∷ x) = (good a, all-good x)
 
-  mapped-element : (x : List A) {h : List B} → map f x ≡ h → length x ≡ factorial (suc m) → Element ok m h
+  pub mapped-element : (x : List A) {h : List B} → map f x ≡ h → length x ≡ factorial (suc m) → Element ok m h
   mapped-element x e n = record { size = sym (ap length e) ∙ length-map x f ∙ n; each = subst (All ok) e (all-good x) }
 
   pub closed : Closed B p ok m (defined B p (f q) (f r) m)

@@ -8,7 +8,7 @@ use Rattle.algebra.specs.Method.{Letters}
 use Rattle.algebra.proofs.Counts.{cost-c}
 
 -- n blocks, each of which takes x, where twice x is y if there is a block
-twice : (n x y : ℕ) → (1 ≤ n → 2 * x ≡ y) → 2 * (n * x) ≡ n * y
+pub twice : (n x y : ℕ) → (1 ≤ n → 2 * x ≡ y) → 2 * (n * x) ≡ n * y
 twice zero x y h = omega arith
 twice (suc n) x y h = omega (arith, ap (λ k. suc n * k) (h (omega arith)))
 

@@ -19,7 +19,7 @@ use Rattle.algebra.proofs.Closed.{closed}
 
 -- ---- the integers modulo N
 
-numbers : (N : ℕ) → Onto (number N) any (λ n. n < N)
+pub numbers : (N : ℕ) → Onto (number N) any (λ n. n < N)
 numbers N n h = record { of = (n, h); fit = tt; is = refl }
 
 module _ (N : ℕ) (pos : 0 < N) (m q r : ℕ) (hq : q < N) (hr : r < N) where
@@ -39,11 +39,11 @@ module _ (N : ℕ) (pos : 0 < N) (m q r : ℕ) (hq : q < N) (hr : r < N) where
 
 -- ---- words
 
-below : (q : ℕ) → minusOne ℕ words q < 2 ^ 64
+pub below : (q : ℕ) → minusOne ℕ words q < 2 ^ 64
 unfolding minusOne modular
 below q = mod-lt _ words-pos
 
-one-less : (q : ℕ) → q < 2 ^ 64 → words .add (minusOne ℕ words q) (words .one) ≡ q
+pub one-less : (q : ℕ) → q < 2 ^ 64 → words .add (minusOne ℕ words q) (words .one) ≡ q
 unfolding minusOne modular
 one-less q h = omega arith
 

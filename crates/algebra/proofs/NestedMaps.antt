@@ -16,7 +16,7 @@ use Rattle.algebra.proofs.Maps.{map-coefficient, map-element, map-plus,
 -- ---- rows
 
 module _ {A B : Type 0} (f : A → B) where
-  map-free : (h : List A) → mapped f (free h) ≡ free (map f h)
+  pub map-free : (h : List A) → mapped f (free h) ≡ free (map f h)
   unfolding mapped free
   map-free h = refl
 
@@ -25,11 +25,11 @@ module _ {A B : Type 0} (f : A → B) where
   unfolding mapped onward
   map-onward x k k' e = λ i. record { value = e (x .value) i .value; count = both (x .count) (e (x .value) i .count) }
 
-  map-join : (x y : Counted A) → mapped f (x ⧺ y) ≡ mapped f x ⧺ mapped f y
+  pub map-join : (x y : Counted A) → mapped f (x ⧺ y) ≡ mapped f x ⧺ mapped f y
   unfolding mapped _⧺_
   map-join x y = λ i. record { value = map-append f (x .value) (y .value) i; count = both (x .count) (y .count) }
 
-  map-row : (a n : ℕ) (x : ℕ → Counted A) (y : ℕ → Counted B) → ((i : ℕ) → mapped f (x i) ≡ y i) → mapped f (row a n x) ≡ row a n y
+  pub map-row : (a n : ℕ) (x : ℕ → Counted A) (y : ℕ → Counted B) → ((i : ℕ) → mapped f (x i) ≡ y i) → mapped f (row a n x) ≡ row a n y
   unfolding row
   map-row a zero x y e = map-free _
   map-row a (suc n) x y e = map-join (row a n x) (x (a + n)) ∙ ap₂ _⧺_ (map-row a n x y e) (e (a + n))

@@ -30,7 +30,7 @@ module _ {A : Type 0} where
 
   -- ---- two blocks
 
-  halves : (b : ℕ) (x : List A) → length x ≡ b + b → length (take b x) ≡ length (drop b x)
+  pub halves : (b : ℕ) (x : List A) → length x ≡ b + b → length (take b x) ≡ length (drop b x)
   halves b x e = length-take-le b x (omega arith) ∙ sym (length-drop b x ∙ omega arith)
 
   pub exchanged-length : (f : OnPair A) (b : ℕ) (x : List A) → length x ≡ b + b → length (exchanged f b x) ≡ length x

@@ -6,27 +6,35 @@
 --   scratchVerdict m n            3: on a scratch slice of n words
 --   firstBadLetter m x            the index of the first letter that is 0 or above m, else the number of letters
 --   wordVerdict m x               4: on a word
+--   firstBadSigned m x            the same of signed letters: the first that is 0 or outside -m to m
+--   signedWordVerdict m x         4: on a word of signed letters
+--   firstBelow x                  the index of the first letter below 0, else the number of letters
+--   inverseVerdict q x            15: on a word of signed letters, for q
+--   signedVerdict m n q x         the checks of the action of such a word on a slice of n words
 --   Buffers                       the result slice and the scratch that are lent to a product
 --   write v old new n             what is lent becomes new and counts n, if nothing is refused
 --   xCall                         the call x
 --
 -- A rank above 6 has the size 0: checks 2 and 3 are judged after check 1.
-use mathlib.Core.Bool.{not, _||_}
+use mathlib.Core.Bool.{not, _&&_, _||_}
 use mathlib.Core.List.{List, _++_}
 use Prim.Native.Nat.{ℕ, suc, _*_, _/_}
 use lib.ListN.{length, getD, drop, replicate}
-use Rattle.ring.specs.Modular.{words}
+use lib.IntN.{ℤ, pos, natAbs}
+use Rattle.ring.specs.Modular.{wordModulus, words}
 use Rattle.lists.specs.Lists.{same, less, first}
 use Rattle.lists.specs.Numbers.{factorial}
+use Rattle.inverses.specs.Inverses.{hasInverse}
 use Rattle.refusals.specs.Refusals.{_then_, unless, accepted, refused, Outcome, ended}
-use Rattle.refusals.specs.declared.Refusal.the-variants.{Rank, Size, Scratch, Word, Letter}
+use Rattle.refusals.specs.declared.Refusal.the-variants.{Rank, Size, Scratch, Word, Letter, NoInverse}
 use Rattle.refusals.specs.declared.Verdict.{Verdict}
 use Rattle.refusals.specs.declared.Answer.{Answer}
 use Rattle.algebra.specs.Element.{plus, scale}
 use Rattle.algebra.specs.Product.{act, times}
 use Rattle.algebra.specs.Nested.{operations, nested}
+use Rattle.signed_words.specs.Words.{isBelow, signedAct}
 use Rattle.ranks.specs.Ranks.{size, needed, scratchSize}
-use Rattle.element_calls.specs.Coefficients.{ring, parametersOf}
+use Rattle.element_calls.specs.Coefficients.{ring, parametersOf, inverseParameters}
 
 -- ---- the checks
 
@@ -44,6 +52,21 @@ firstBadLetter m x = first (λ i. let letter = getD x i 0 in same letter 0 || le
 
 unfoldable pub wordVerdict : ℕ → List ℕ → Verdict
 wordVerdict m x = unless (less 4096 (length x)) Word then unless (less (firstBadLetter m x) (length x)) (Letter (firstBadLetter m x))
+
+unfoldable pub firstBadSigned : ℕ → List ℤ → ℕ
+firstBadSigned m x = first (λ i. let letter = natAbs (getD x i (pos 0)) in same letter 0 || less m letter) 0 (length x)
+
+unfoldable pub signedWordVerdict : ℕ → List ℤ → Verdict
+signedWordVerdict m x = unless (less 4096 (length x)) Word then unless (less (firstBadSigned m x) (length x)) (Letter (firstBadSigned m x))
+
+unfoldable pub firstBelow : List ℤ → ℕ
+firstBelow x = first (λ i. isBelow (getD x i (pos 0))) 0 (length x)
+
+unfoldable pub inverseVerdict : ℕ → List ℤ → Verdict
+inverseVerdict q x = unless (less (firstBelow x) (length x) && not (hasInverse wordModulus q)) (NoInverse (firstBelow x))
+
+abbrev pub signedVerdict : (m n q : ℕ) → List ℤ → Verdict
+signedVerdict m n q x = rankVerdict m then sizeVerdict m n then signedWordVerdict m x then inverseVerdict q x
 
 -- ---- the calls
 
@@ -69,6 +92,13 @@ actWordCall m q x h =
     let p = parametersOf q in
     write (rankVerdict m then sizeVerdict m (length h) then wordVerdict m x)
     h (act ℕ (ring p) (p .q) (p .r) m x h) (length x * (3 * factorial (suc m) / 2))
+
+unfoldable pub actSignedWordCall : (m q : ℕ) (x : List ℤ) (h : List ℕ) → Outcome Answer (List ℕ)
+actSignedWordCall m q x h =
+    let p = parametersOf q in
+    let p' = inverseParameters q in
+    write (signedVerdict m (length h) q x)
+    h (signedAct ℕ (ring p) (p .q) (p .r) (p' .q) (p' .r) m x h) (length x * (3 * factorial (suc m) / 2))
 
 unfoldable pub productCall : (m q : ℕ) (h g result scratch : List ℕ) → Outcome Answer Buffers
 productCall m q h g result scratch =

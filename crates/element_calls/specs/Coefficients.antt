@@ -5,9 +5,11 @@
 --   ring p           the operations on coefficients
 --   Coefficient p x  x is a coefficient: a number below the modulus
 --   parametersOf q   q, and r = q - 1
+--   inverseParameters q   q' and q' - 1, for the inverse q' of q; where q has none, they stand for nothing
 use Prim.Native.Nat.{ℕ, _<_}
 use Rattle.ring.specs.Ring.{Ops}
 use Rattle.ring.specs.Modular.{wordModulus, modular, words}
+use Rattle.inverses.specs.Inverses.{inverse}
 use Rattle.algebra.specs.Product.{minusOne}
 use Rattle.element_calls.specs.declared.Parameters.{Parameters}
 
@@ -22,3 +24,6 @@ Coefficient p x = x < modulus p
 
 abbrev pub parametersOf : ℕ → Parameters
 parametersOf q = record { q = q; r = minusOne ℕ words q }
+
+abbrev pub inverseParameters : ℕ → Parameters
+inverseParameters q = parametersOf (inverse wordModulus q)

@@ -1,4 +1,5 @@
 pub mod Coefficients
 pub mod Calls
+pub mod Steps
 pub mod Claims
 pub mod Demand3

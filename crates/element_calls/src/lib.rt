@@ -5,6 +5,7 @@ ghost use mathlib.Core.Path.{_≡_};
 ghost use Rattle.element_calls.specs.Coefficients.{parametersOf};
 
 pub mod checks;
+pub mod signed;
 
 // The parameters of the algebra: q, and r = q - 1.
 pub struct Parameters {

@@ -9,6 +9,12 @@ module _ (A : Type 0) (o : Ops A) (𝓡 : Ring A o) where
   pub add-left-comm : (a b c : A) → o .add a (o .add b c) ≡ o .add b (o .add a c)
   add-left-comm a b c = sym (𝓡 .add-assoc a b c) ∙ ap (λ x. o .add x c) (𝓡 .add-comm a b) ∙ 𝓡 .add-assoc b a c
 
+  pub add-cancel : (c a b : A) → o .add c a ≡ o .add c b → a ≡ b
+  add-cancel c a b h = sym (back a) ∙ ap (o .add (o .neg c)) h ∙ back b
+    where
+      back : (x : A) → o .add (o .neg c) (o .add c x) ≡ x
+      back x = sym (𝓡 .add-assoc (o .neg c) c x) ∙ ap (λ y. o .add y x) (𝓡 .neg-add c) ∙ 𝓡 .zero-add x
+
   pub mul-one : (a : A) → o .mul a (o .one) ≡ a
   mul-one a = 𝓡 .mul-comm a (o .one) ∙ 𝓡 .one-mul a
 

@@ -1,15 +1,14 @@
--- The loop is the search for the first bad letter.
-use mathlib.Core.Path.{_≡_, refl}
-use mathlib.Core.Logic.{_≢_, ⊎-elim}
-use mathlib.Core.Bool.{true, false, _||_}
-use Prim.Native.Nat.{ℕ, _-_}
+-- The loop is the search for the first bad letter. Rests on LetterTests and lists' First.
+use mathlib.Core.Path.{_≡_}
+use mathlib.Core.Logic.{⊎-elim}
+use mathlib.Core.Bool.{true, _||_}
+use Prim.Native.Nat.{_-_}
 use native.Mathlib.Omega.{arith}
-use lib.Dec.{ltb}
 use lib.ListN.{length, getD}
 use Rattle.lists.specs.Lists.{same, less}
-use Rattle.lists.proofs.Test.{same-yes, same-no}
 use Rattle.lists.proofs.First.{From, first-start, first-here, first-next, first-none}
 use Rattle.element_calls.specs.Calls.{firstBadLetter}
+use Rattle.element_calls.proofs.LetterTests.{zero-bad, large-bad, within}
 use Rattle.element_calls.proofs.checks.first_bad_letter.Statement.{statement}
 use Rattle.element_calls.proofs.checks.first_bad_letter.Tie as tie
 
@@ -22,18 +21,6 @@ abbrev μ-loop : tie.MeasureT-loop
 -- the loop's head, from past the test for 0
 abbrev head : tie.Else1 Inv-loop μ-loop → tie.At-loop Inv-loop μ-loop
 head c = c .before .before .before
-
--- a letter by the tests of the code
-zero-bad : (m x : ℕ) → x ≡ 0 → (same x 0 || less m x) ≡ true
-zero-bad m x e = rw (same-yes e) refl
-
-large-bad : (m x : ℕ) → x ≢ 0 → ltb m x ≡ true → (same x 0 || less m x) ≡ true
-unfolding less
-large-bad m x n e = rw (same-no n) e
-
-within : (m x : ℕ) → x ≢ 0 → ltb m x ≡ false → (same x 0 || less m x) ≡ false
-unfolding less
-within m x n e = rw (same-no n) e
 
 loop-holds : tie.Need-loop-holds Inv-loop μ-loop
 loop-holds c = first-start _ _

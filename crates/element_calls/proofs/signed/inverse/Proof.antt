@@ -1,0 +1,21 @@
+-- A word without a letter below 0 needs no inverse. Rests on lists' Test.
+use mathlib.Core.Path.{_≡_, sym, _∙_}
+use borrow.Author.Needs.{needs}
+use Rattle.lists.proofs.Test.{less-yes, less-no}
+use Rattle.element_calls.specs.Calls.{inverseVerdict}
+use Rattle.element_calls.proofs.InverseVerdicts.{has-one, none-below, some-below}
+use Rattle.element_calls.proofs.signed.inverse.Statement.{statement}
+use Rattle.element_calls.proofs.signed.inverse.Tie as tie
+
+returns : tie.Need-returns
+returns c = has-one _ _ (sym (c .before .has-inverse .ensures) ∙ c .if1 .taken)
+
+returns-2 : tie.Need-returns-2
+returns-2 c = let at = c .before in
+    some-below _ _ (sym (at .before .before .has-inverse .ensures) ∙ at .before .if1 .left) (at .first-below .ensures) (c .if2 .taken)
+
+returns-3 : tie.Need-returns-3
+returns-3 c = none-below _ _ (c .before .first-below .ensures) (c .if2 .left)
+
+pub inverse-spec : {M : Type 1} → statement M
+inverse-spec = tie.close (tie.spec (λ c κs. search needs) returns (λ c κs. search needs) returns-2 returns-3)

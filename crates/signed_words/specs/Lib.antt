@@ -1,0 +1,5 @@
+pub mod InverseLetter
+pub mod Words
+pub mod Count
+pub mod Laws
+pub mod Maps
