@@ -31,7 +31,8 @@ module _ (A : Type 0) (o : Ops A) (q' r' : A) where
     takes-back B x y e d = takes-as refl (omega arith)
         (takes-join (takes-plus A o (takes-free y d) (takes-scale A o r' (takes-free x e))) (takes-scale A o q' (takes-free x e)))
 
-    takes : (m i : ℕ) (h : List A) → 1 ≤ i → i ≤ m → length h ≡ factorial (suc m) → Takes s p (factorial (suc m)) (backCost m i) (nestedBack A o q' r' m i h)
+    takes : (m i : ℕ) (h : List A) → 1 ≤ i → i ≤ m → length h ≡ factorial (suc m)
+        → Takes s p (factorial (suc m)) (backCost m i) (nestedBack A o q' r' m i h)
     unfolding nestedBack backCost factorial
     takes zero i h u v e = takes-free h e
     takes (suc m) i h u v e = takes-as (size i v u) refl (takes-join
@@ -74,7 +75,8 @@ module _ (A : Type 0) (o : Ops A) (q' r' : A) where
               ap (λ k. k * w) n,
             )
 
-    weighs : (m i : ℕ) (h : List A) → Letter m i → length h ≡ factorial (suc m) → 2 * weigh s p (nestedBack A o q' r' m i h .count) ≡ (s + 2 * p) * factorial (suc m)
+    weighs : (m i : ℕ) (h : List A) → Letter m i → length h ≡ factorial (suc m)
+        → 2 * weigh s p (nestedBack A o q' r' m i h .count) ≡ (s + 2 * p) * factorial (suc m)
     weighs m i h l e = ap (λ n. 2 * n) (takes m i h (l .low) (l .high) e .took) ∙ cost-is m i (l .low) (l .high)
 
   pub back-counts : (m : ℕ) → BackCounts A o q' r' m

@@ -1,4 +1,5 @@
--- The inverse letter block by block is `backward` on the pairs. Without any law of a ring. Rests on BackwardLists, algebra's Level, PairLists and ByBlocks, and lists' Blocks.
+-- The inverse letter block by block is `backward` on the pairs. Without any law of a ring. Rests on BackwardLists, algebra's
+-- Level, PairLists and ByBlocks, and lists' Blocks.
 use mathlib.Core.Path.{_≡_, sym, ap, ap₂, _∙_}
 use mathlib.Core.List.{List, _++_}
 use Prim.Native.Nat.{ℕ, zero, suc, _+_, _-_, _*_, _≤_, _<_}

@@ -29,14 +29,15 @@ less-one = refl
 
 -- ---- rank 1: a pair (s, t) becomes (t + r' s, q' s)
 
-inverse-letters : map (inverseLetter ℕ words 3 2 q' r' 1 1) ((1 ∷ 0 ∷ []) ∷ (0 ∷ 1 ∷ []) ∷ (3 ∷ 5 ∷ []) ∷ []) ≡ (r' ∷ q' ∷ []) ∷ (1 ∷ 0 ∷ []) ∷ (3 ∷ 1 ∷ []) ∷ []
-unfolding modular same less range tally product identity swap generator ofWord below len above entry cycle factorial series blocks place join perms coefficient element
-    plus scale letter inverseLetter
+inverse-letters : map (inverseLetter ℕ words 3 2 q' r' 1 1) ((1 ∷ 0 ∷ []) ∷ (0 ∷ 1 ∷ []) ∷ (3 ∷ 5 ∷ []) ∷ [])
+    ≡ (r' ∷ q' ∷ []) ∷ (1 ∷ 0 ∷ []) ∷ (3 ∷ 1 ∷ []) ∷ []
+unfolding modular same less range tally product identity swap generator ofWord below len above entry cycle factorial series blocks place join perms
+    coefficient element plus scale letter inverseLetter
 inverse-letters = refl
 
 the-inverse : inverseT ℕ words 3 2 q' r' 1 1 ≡ r' ∷ q' ∷ []
-unfolding modular same less range tally product identity swap generator ofWord below len above entry cycle factorial series blocks place join perms coefficient element
-    plus scale basis unit T inverseT
+unfolding modular same less range tally product identity swap generator ofWord below len above entry cycle factorial series blocks place join perms
+    coefficient element plus scale basis unit T inverseT
 the-inverse = refl
 
 on-a-pair : (backward ℕ words q' r' .shorter 3 5 ≡ 3) × (backward ℕ words q' r' .longer 3 5 ≡ 1)
@@ -54,12 +55,12 @@ unfolding mirror
 mirrored = refl
 
 there-and-back-and-on : signedAct ℕ words 3 2 q' r' 1 (pos 1 ∷ negsuc 0 ∷ negsuc 0 ∷ []) (3 ∷ 5 ∷ []) ≡ 3 ∷ 1 ∷ []
-unfolding modular same less range tally product identity swap generator ofWord below len above entry cycle factorial series blocks place join perms coefficient element
-    plus scale letter inverseLetter signedLetter signedAct
+unfolding modular same less range tally product identity swap generator ofWord below len above entry cycle factorial series blocks place join perms
+    coefficient element plus scale letter inverseLetter signedLetter signedAct
 there-and-back-and-on = refl
 
 -- rank 2: T_1 and then the inverse of T_2 is q' T_(s_1 s_2) + r' T_1
 left-to-right : signedAct ℕ words 3 2 q' r' 2 (pos 1 ∷ negsuc 1 ∷ []) (1 ∷ 0 ∷ 0 ∷ 0 ∷ 0 ∷ 0 ∷ []) ≡ 0 ∷ r' ∷ 0 ∷ q' ∷ 0 ∷ 0 ∷ []
-unfolding modular same less range tally product identity swap generator ofWord below len above entry cycle factorial series blocks place join perms coefficient element
-    plus scale letter inverseLetter signedLetter signedAct
+unfolding modular same less range tally product identity swap generator ofWord below len above entry cycle factorial series blocks place join perms
+    coefficient element plus scale letter inverseLetter signedLetter signedAct
 left-to-right = refl

@@ -22,7 +22,8 @@ module _ (A : Type 0) (o : Ops A) (q r : A) (m : ℕ) where
   plain-word a b (pos i ∷ x) h w = plain-word a b x (letter A o q r m i h) (w .1)
   plain-word a b (negsuc i ∷ x) h w = absurd (omega (arith, ap bit (w .0)))
 
-  pub without-inverse : (a b c d : A) (x : List ℤ) (h : List A) → All (λ z. isBelow z ≡ false) x → signedAct A o q r a b m x h ≡ signedAct A o q r c d m x h
+  pub without-inverse : (a b c d : A) (x : List ℤ) (h : List A) → All (λ z. isBelow z ≡ false) x
+      → signedAct A o q r a b m x h ≡ signedAct A o q r c d m x h
   without-inverse a b c d x h w = plain-word a b x h w ∙ sym (plain-word c d x h w)
 
   pub plain-without-inverse : (a b c d : A) (x : List ℕ) (h : List A) → signedAct A o q r a b m (map pos x) h ≡ signedAct A o q r c d m (map pos x) h
