@@ -1,7 +1,8 @@
--- What acceptance says of a sheet: its size, and at each offset that a run reaches a good command, the end as the last byte. Rests on Cases.
+-- What acceptance says of a sheet: its size, and at each offset that a run reaches a good command, the end as the last byte. Rests on Allowed
+-- and Cases.
 use mathlib.Core.Path.{_≡_, refl, sym, _∙_}
 use mathlib.Core.Logic.{_⊎_, inl, inr, ⊎-elim}
-use mathlib.Core.Bool.{true, false, and-eq-true-iff}
+use mathlib.Core.Bool.{true, false}
 use mathlib.Core.List.{List}
 use Prim.Native.Nat.{ℕ, _≤_, _<_}
 use native.Mathlib.Omega.{arith}
@@ -13,14 +14,14 @@ use Rattle.refusals.specs.declared.Refusal.the-variants.{Bytes, Ending}
 use Rattle.refusals.specs.declared.Verdict.the-variants.{Accepted, Refused}
 use Rattle.refusals.proofs.Verdicts.{accepts-unless}
 use Rattle.sheet_format.specs.Format.{decode, header}
-use Rattle.sheet_format.specs.declared.Header.{Header}
 use Rattle.sheet_format.specs.declared.Command.{Command}
 use Rattle.sheet_format.specs.declared.Command.the-variants.{End}
 use Rattle.sheet_format.specs.declared.Decoded.the-variants.{Found}
 use Rattle.sheet_format.proofs.Offsets.{found-within}
-use Rattle.sheet.specs.Check.{isEnd, inRange, invertible, mayRun, checkSheet}
+use Rattle.sheet.specs.Check.{isEnd, mayRun, checkSheet}
 use Rattle.sheet.proofs.CheckFrom.{checkFrom, from-start, stands}
-use Rattle.sheet.proofs.Cases.{Taken, Kind, nothing, unknown, short, disordered, outside, lacking, end, on, kind?, order-fails, range-fails, inverse-fails, taken-on, taken-end}
+use Rattle.sheet.proofs.Allowed.{may-run}
+use Rattle.sheet.proofs.Cases.{Kind, nothing, unknown, short, disordered, outside, lacking, end, on, kind?, order-fails, range-fails, inverse-fails, taken-on, taken-end}
 
 refused : {why : Refusal} → Refused why ≡ Accepted → ⊥
 refused e = let z : _≡_ {A = ℕ} 0 1 = cc in omega arith
@@ -33,14 +34,6 @@ pub record Next (s : List ℕ) (at : ℕ) : Type 0 where
   pub stands : decode s at ≡ Found command after
   pub runs : mayRun (header s) command ≡ true
   pub rest : ((isEnd command ≡ true) × (after ≡ length s)) ⊎ ((isEnd command ≡ false) × (checkFrom s after ≡ Accepted))
-
-runs : {s : List ℕ} {at : ℕ} {c : Command} {after : ℕ} → Taken s at c after → mayRun (header s) c ≡ true
-unfolding mayRun
-runs t = rw (t .range, t .inverse) refl
-
-pub in-range : (h : Header) (c : Command) → mayRun h c ≡ true → inRange (h .rank) c ≡ true
-unfolding mayRun
-in-range h c e = and-eq-true-iff (inRange (h .rank) c) (invertible (h .q) c) .0 e .0
 
 pub accepted-next : (s : List ℕ) (at : ℕ) → checkFrom s at ≡ Accepted → Next s at
 accepted-next s at a = go (kind? s at)
@@ -55,8 +48,14 @@ accepted-next s at a = go (kind? s at)
     go (end after t) =
         let past = less-false after (length s) (accepts-unless (less after (length s)) (Ending after) (sym (taken-end s at t refl) ∙ a)) in
         let w = found-within s at (t .stands) in
-        record { command = End; after = after; stands = t .stands; runs = runs t; rest = inl (refl, omega arith) }
-    go (on c after t e) = record { command = c; after = after; stands = t .stands; runs = runs t; rest = inr (e, sym (taken-on s at t e) ∙ a) }
+        record { command = End; after = after; stands = t .stands; runs = may-run (header s) End (t .range) (t .inverse); rest = inl (refl, omega arith) }
+    go (on c after t e) = record {
+      command = c;
+      after = after;
+      stands = t .stands;
+      runs = may-run (header s) c (t .range) (t .inverse);
+      rest = inr (e, sym (taken-on s at t e) ∙ a);
+    }
 
 -- ---- a whole sheet
 
