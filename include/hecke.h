@@ -87,6 +87,14 @@ uint64_t hecke_scale(size_t m, uint64_t c, const uint64_t *element, size_t eleme
 uint64_t hecke_act_word(size_t m, uint64_t q, const uint8_t *word, size_t word_len,
                         uint64_t *element, size_t element_len, uint64_t *answer, size_t answer_len);
 
+/* The word's signed letters act on the element of rank m, left to right: i is T_i, and -i its inverse, q' T_i + (q' - 1), where
+ * q' is the inverse of q modulo 2^64; answer[0] is the count, 3M/2 a letter either way. Refused: 1 a rank above 6; 2 an element
+ * that is not M words; 4 a word of over 4,096 letters (place 4,096), else the first letter that is 0 or outside -m to m; 15 the
+ * first letter below 0 while q is even, and so has no inverse. Of rank 1 with q = 3, the word 1 1 -1 makes 0 1 of 1 0 and
+ * counts 9. For odd q a word and then, in a second call, its mirror word read backwards leave the element as it was. */
+uint64_t hecke_act_signed_word(size_t m, uint64_t q, const int8_t *word, size_t word_len,
+                               uint64_t *element, size_t element_len, uint64_t *answer, size_t answer_len);
+
 /* The product of two elements of rank m; answer[0] is the count, C(m, m). The first hecke_scratch_size(m) words of scratch are
  * zero afterwards, and the rest as before. Refused: 1 a rank above 6; 2 a slice that is not M words; 3 scratch of fewer than
  * hecke_scratch_size(m) words. Of rank 1 with q = 3, 0 1 and 0 1 give 3 2 and count 9. */
@@ -94,14 +102,15 @@ uint64_t hecke_product(size_t m, uint64_t q, const uint64_t *left, size_t left_l
                        uint64_t *result, size_t result_len, uint64_t *scratch, size_t scratch_len,
                        uint64_t *answer, size_t answer_len);
 
-/* The check of a whole run sheet. Refused: 9 a sheet that is empty or over 4,096 bytes; 10 to 13 each command, lowest offset
- * first (place its offset): unknown, operands cut off, out of order, operand out of range; 14 a byte after the end command
- * (place its offset), or no end command (place the sheet's length). A lone byte 0 is refused with 12 at 0. */
+/* The check of a whole run sheet. Refused: 9 a sheet that is empty or over 4,096 bytes; 10 to 13 and 15 each command, lowest
+ * offset first (place its offset): unknown, operands cut off, out of order, operand out of range, an inverse letter (0x34) while
+ * q is even; 14 a byte after the end command (place its offset), or no end command (place the sheet's length). A lone byte 0 is
+ * refused with 12 at 0. */
 uint64_t hecke_sheet_check(const uint8_t *sheet, size_t sheet_len);
 
 /* Runs a whole run sheet, of rank m, on four registers of 720 words; register r begins at word 720 r. Whatever they held, the
  * run begins with zero elements; afterwards each register has its element in its first M words, and zeros after them.
- * answer[0] is the count of ring operations over all commands. A show prints nothing. Refused: 9 to 14 as by
+ * answer[0] is the count of ring operations over all commands. A show prints nothing. Refused: 9 to 15 as by
  * hecke_sheet_check, and then 8 registers that are not 2,880 words. The sheet, in hexadecimal,
  *     10 01 03 00 00 00 00 00 00 00 20 00 30 00 01 30 00 01 40 00 00
  * leaves 3 2 in register 0, zeros in all the rest, and counts 6. */

@@ -59,11 +59,22 @@ def times_generator(m, q, h, i):
     return [(q * h[ws] if longer else h[ws] + (q - 1) * x) % WORD for x, (ws, longer) in zip(h, neighbours(m, i))]
 
 
+def times_inverse(m, q, h, i):
+    """h times the inverse of T_i, for odd q: q' (h T_i) + (q' - 1) h, where q' is the inverse of q modulo 2^64."""
+    inverse = pow(q, -1, WORD)
+    return add(scale(inverse, times_generator(m, q, h, i)), scale(inverse - 1, h))
+
+
 def act(m, q, h, word):
-    """A word of generators acts on h, left to right."""
+    """A word of signed letters acts on h, left to right: i is T_i, and -i its inverse, which even q does not have."""
     for i in word:
-        h = times_generator(m, q, h, i)
+        h = times_generator(m, q, h, i) if i > 0 else times_inverse(m, q, h, -i)
     return h
+
+
+def mirror(word):
+    """The mirror word read backwards, which undoes the word."""
+    return [-i for i in reversed(word)]
 
 
 @lru_cache(maxsize=None)
@@ -150,12 +161,19 @@ def check_scratch(m, scratch):
         raise Refused(3)
 
 
-def check_word(m, word):
+def check_word(m, word, least=1):
+    """Letters go from `least` to m, without 0."""
     if len(word) > MOST_LETTERS:
         raise Refused(4, MOST_LETTERS)
     for index, letter in enumerate(word):
-        if letter == 0 or letter > m:
+        if letter == 0 or not least <= letter <= m:
             raise Refused(4, index)
+
+
+def check_inverses(q, word):
+    for index, letter in enumerate(word):
+        if letter < 0 and q % 2 == 0:
+            raise Refused(15, index)
 
 
 # ---- the calls
@@ -178,6 +196,15 @@ def call_act(m, q, h, word):
     check_rank(m)
     check_elements(m, h)
     check_word(m, word)
+    h[:] = act(m, q, h, word)
+    return letter_count(m) * len(word)
+
+
+def call_act_signed(m, q, h, word):
+    check_rank(m)
+    check_elements(m, h)
+    check_word(m, word, -m)
+    check_inverses(q, word)
     h[:] = act(m, q, h, word)
     return letter_count(m) * len(word)
 

@@ -8,21 +8,23 @@ from functools import partial
 from itertools import product as every
 from math import factorial
 
-from reference.algebra import WORD, permutations, size
+from reference.algebra import WORD, mirror, permutations, size
 from reference.permutations import inverse, standard_word, tower
-from reference.sheet import (BEGIN, EQUAL, LETTER, MOST_BYTES, MOST_RANK, OPERANDS, PAIR, PRODUCT, REGISTERS, SCALE, SET, SHOW,
-                             SUM, UNIT, printed)
-from reference.sheet_cases import END, EXAMPLE, command, random_sheet
+from reference.sheet import (BEGIN, EQUAL, INVERSE, LETTER, MOST_BYTES, MOST_RANK, OPERANDS, PAIR, PRODUCT, REGISTERS, SCALE, SET,
+                             SHOW, SUM, UNIT, printed)
+from reference.sheet_cases import END, EXAMPLE, braid, command, random_sheet
 
 FOLDER = 'conformance/sheets'
 WRITTEN_BY_HAND = {'conformance/README.md', 'conformance/run.py'}
 
-begin, unit, put, letter, product, add, scale, show, pair, equal = (
-    partial(command, code) for code in (BEGIN, UNIT, SET, LETTER, PRODUCT, SUM, SCALE, SHOW, PAIR, EQUAL))
+begin, unit, put, letter, product, add, scale, inverse_letter, show, pair, equal = (
+    partial(command, code) for code in (BEGIN, UNIT, SET, LETTER, PRODUCT, SUM, SCALE, INVERSE, SHOW, PAIR, EQUAL))
 NAMES = {0x00: 'end', BEGIN: 'begin', UNIT: 'unit', SET: 'set', LETTER: 'letter', PRODUCT: 'product', SUM: 'sum',
-         SCALE: 'scale', SHOW: 'show', PAIR: 'pairing', EQUAL: 'equality'}
+         SCALE: 'scale', INVERSE: 'inverse', SHOW: 'show', PAIR: 'pairing', EQUAL: 'equality'}
 RANKS = range(MOST_RANK + 1)
 PARAMETERS = {'0': 0, '1': 1, '2': 2, '3': 3, '2_to_63': 2 ** 63, '2_to_64_less_1': WORD - 1}
+ODD = {name: q for name, q in PARAMETERS.items() if q % 2}
+EVEN = {name: q for name, q in PARAMETERS.items() if q % 2 == 0} | {'2_to_64_less_2': WORD - 2}
 BYTES = 0xF1E2_D3C4_B5A6_9788  # eight different bytes
 LONGEST_WORD = standard_word(range(1, MOST_RANK + 1))
 SHOWS = b''.join(show(r) for r in range(REGISTERS))
@@ -35,10 +37,6 @@ def sheet(m, q, *commands):
 def loaded(m):
     """Different contents in each register."""
     return b''.join(put(r, r % size(m), 11 + 2 * r) + put(r, size(m) - 1, 101 + 2 * r) for r in range(REGISTERS))
-
-
-def letters(r, word):
-    return b''.join(letter(r, i) for i in word)
 
 
 def element(source, m, r):
@@ -66,10 +64,10 @@ def documents():
     """Document 01's example and its marked cases, and its counts of products."""
     yield 'example_square_of_t_1', EXAMPLE
     words = (), (1,), (2,), (1, 2), (2, 1), (1, 2, 1)
-    yield 'indices_of_rank_2', sheet(2, 3, *(unit(0) + letters(0, word) + show(0) for word in words))
+    yield 'indices_of_rank_2', sheet(2, 3, *(unit(0) + braid(0, word) + show(0) for word in words))
     yield 'square_of_s_2_s_1_at_q_2', sheet(2, 2, put(0, 4, 1), product(1, 0, 0), show(1))
     for q in (0, 1):
-        yield f'square_of_t_1_at_q_{q}', sheet(1, q, unit(0), letters(0, (1, 1)), show(0))
+        yield f'square_of_t_1_at_q_{q}', sheet(1, q, unit(0), braid(0, (1, 1)), show(0))
     for m in RANKS:
         yield f'count_of_a_product_rank_{m}', sheet(m, 3, product(0, 1, 2))
 
@@ -100,15 +98,50 @@ def some_letters():
         start = b''.join(put(0, index, source.randrange(WORD)) for index in few)
         yield f'each_letter_rank_{m}', sheet(m, 3, start, *(add(1, 0, 3) + letter(1, i) + show(1) for i in range(1, m + 1)))
     for name, q in PARAMETERS.items():
-        yield f'each_letter_at_q_{name}_rank_3', sheet(3, q, element(random.Random(1), 3, 0), letters(0, (1, 2, 3)), show(0))
+        yield f'each_letter_at_q_{name}_rank_3', sheet(3, q, element(random.Random(1), 3, 0), braid(0, (1, 2, 3)), show(0))
     for word in ((1, 2), (2, 1)):
-        yield f'{word[0]}_then_{word[1]}_on_the_right', sheet(2, 3, unit(0), letters(0, word), show(0))
+        yield f'{word[0]}_then_{word[1]}_on_the_right', sheet(2, 3, unit(0), braid(0, word), show(0))
     for name, m, one, other in (('braid_relation', 2, (1, 2, 1), (2, 1, 2)), ('distant_letters_commute', 3, (1, 3), (3, 1))):
         start = loaded(m) + add(1, 0, 2) + add(3, 0, 2)
-        yield name, sheet(m, BYTES, start, letters(1, one), letters(3, other), show(1), equal(1, 3))
-    yield 'longest_word_rank_5', sheet(5, 3, unit(0), letters(0, LONGEST_WORD), show(0))
+        yield name, sheet(m, BYTES, start, braid(1, one), braid(3, other), show(1), equal(1, 3))
+    yield 'longest_word_rank_5', sheet(5, 3, unit(0), braid(0, LONGEST_WORD), show(0))
     yield 'thousand_times', sheet(1, 3, unit(0), letter(0, 1) * 1000, show(0))
     yield 'on_zero_register', sheet(2, 3, letter(0, 1), show(0))
+
+
+def inverse_letters():
+    """0x34 by itself, and words of both kinds of letters, after which the mirror word read backwards brings home."""
+    yield 'each_register', sheet(2, 3, loaded(2), *(inverse_letter(r, 2) + SHOWS for r in range(REGISTERS)))
+    for m in RANKS[1:]:
+        source = random.Random(m)
+        few = [0, size(m) - 1, *source.sample(range(size(m)), min(size(m), 20))]
+        start = b''.join(put(0, index, source.randrange(WORD)) for index in few)
+        yield f'each_letter_rank_{m}', sheet(m, 3, start, *(add(1, 0, 3) + inverse_letter(1, i) + show(1) for i in range(1, m + 1)))
+    for name, q in (*ODD.items(), ('lowest_byte_first', BYTES + 1)):
+        yield f'each_letter_at_q_{name}_rank_3', sheet(3, q, element(random.Random(1), 3, 0), braid(0, (-1, -2, -3)), show(0))
+    for name, q in ODD.items():
+        both = add(1, 0, 3) + braid(1, (1, -1)) + equal(0, 1) + braid(1, (-2, 2)) + equal(0, 1)
+        yield f'undoes_its_letter_at_q_{name}', sheet(2, q, two_elements(2), both, show(1))
+    third = pow(3, -1, WORD)
+    alone = add(1, 0, 3) + letter(1, 2) + scale(1, third) + add(2, 0, 3) + scale(2, third - 1) + add(1, 1, 2)
+    both = element(random.Random(2), 2, 0), alone, inverse_letter(0, 2), equal(0, 1), show(0)
+    yield 'is_two_scalings_a_letter_and_a_sum', sheet(2, 3, *both)
+    for word in ((1, -2), (-2, 1), (-1, 2), (-1, -2)):
+        name = '_then_'.join(f'{"inverse_" if i < 0 else ""}{abs(i)}' for i in word)
+        yield f'{name}_on_the_right', sheet(2, 3, unit(0), braid(0, word), show(0))
+    for name, m, one, other in (('braid_relation', 2, (-1, -2, -1), (-2, -1, -2)),
+                                ('braid_relation_of_both_kinds', 2, (1, 2, -1), (-2, 1, 2)),
+                                ('distant_letters_commute', 3, (1, -3), (-3, 1))):
+        start = loaded(m) + add(1, 0, 2) + add(3, 0, 2)
+        yield name, sheet(m, BYTES + 1, start, braid(1, one), braid(3, other), show(1), equal(1, 3))
+    for m in RANKS[1:]:
+        source = random.Random(m)
+        word = [source.choice((1, -1)) * source.randint(1, m) for _ in range(15)]
+        body = add(1, 0, 3), braid(1, word), equal(0, 1), braid(1, mirror(word)), equal(0, 1)
+        yield f'mirror_brings_home_rank_{m}', sheet(m, BYTES + 1, element(source, m, 0), *body)
+    yield 'figure_eight', sheet(2, 3, unit(0), braid(0, (1, -2, 1, -2)), show(0))
+    yield 'thousand_times', sheet(1, 3, unit(0), inverse_letter(0, 1) * 1000, show(0))
+    yield 'on_zero_register', sheet(2, 3, inverse_letter(0, 1), show(0))
 
 
 def products():
@@ -151,7 +184,7 @@ def actions():
 def slips():
     """Document 01's slips, in numbers that can be followed by hand."""
     turned = [v for v in permutations(3) if inverse(v) != v]
-    words = (unit(0) + letters(0, standard_word(tower(v))) + show(0) for v in turned)
+    words = (unit(0) + braid(0, standard_word(tower(v))) + show(0) for v in turned)
     yield 'right_to_left_words_of_all_but_involutions_rank_3', sheet(3, 3, *words)
     small = b''.join(put(0, index, index + 1) for index in range(size(2)))
     for j, l in ((1, 1), (2, 1), (2, 2)):
@@ -228,16 +261,18 @@ def counts():
     for m in RANKS:
         one_letter = letter(0, 1) if m else b''
         yield f'of_1_letter_10_sums_100_scalings_rank_{m}', sheet(m, 3, one_letter, add(0, 1, 2) * 10, scale(0, 2) * 100)
+        if m:
+            yield f'of_100_letters_of_each_kind_rank_{m}', sheet(m, 3, braid(0, (m, -1)) * 100)
     four = product(0, 1, 2) + add(1, 0, 2) + letter(1, 2) + scale(2, 3)
     yield 'over_400_commands_rank_2', sheet(2, 3, loaded(2), four * 100, SHOWS)
     yield 'of_300_products_rank_3', sheet(3, 3, product(0, 1, 2) * 300)
     yield 'of_9_products_rank_5', sheet(5, 3, product(0, 1, 2) * 9)
 
 
-def filled(bytes_):
+def filled(bytes_, q=3):
     """A sheet of that many bytes, which are letters and one to three shows."""
     shown = next(n for n in (1, 2, 3) if (bytes_ - 13 - 2 * n) % 3 == 0)
-    return sheet(2, 3, unit(0), letters(0, [1 + k % 2 for k in range((bytes_ - 13 - 2 * shown) // 3)]), show(0) * shown)
+    return sheet(2, q, unit(0), braid(0, [1 + k % 2 for k in range((bytes_ - 13 - 2 * shown) // 3)]), show(0) * shown)
 
 
 def sizes():
@@ -259,6 +294,7 @@ def mixtures():
 START = begin(2, 3)           # the next command stands at 10
 LATER = START + unit(0)       # the next command stands at 12
 AFTER_SHOWS = LATER + SHOWS   # the next command stands at 20
+AT_EVEN_Q = begin(2, 2) + unit(0)  # the next command stands at 12
 
 
 def with_operand(code, name, value):
@@ -283,7 +319,7 @@ def refused_sizes():
 def unknown_commands():
     for code in (0x01, 0x11, 0xff):
         yield 10, 0, f'code_{code:02x}', bytes([code]) + START[1:] + END
-    for code in (0x0f, 0x11, 0x22, 0x34, 0x43, 0xb1, 0xff):
+    for code in (0x0f, 0x11, 0x22, 0x35, 0x43, 0xb1, 0xff):
         yield 10, 12, f'code_{code:02x}', LATER + bytes([code, 0, 0, 0]) + END
     yield 10, 20, 'code_02_after_shows', AFTER_SHOWS + b'\x02' + END
     yield 10, 4095, 'last_byte_of_a_full_sheet', filled(MOST_BYTES)[:-1] + b'\xff'
@@ -318,11 +354,15 @@ def operands_out_of_range():
     for m in RANKS:
         yield 13, 10, f'index_past_the_last_rank_{m}', begin(m, 3) + put(0, size(m), 1) + END
         yield 13, 10, f'letter_above_rank_{m}', begin(m, 3) + letter(0, m + 1) + END
+        yield 13, 10, f'inverse_letter_above_rank_{m}', begin(m, 3) + inverse_letter(0, m + 1) + END
     yield 13, 12, 'index_256_rank_2', LATER + put(0, 256, 1) + END
     yield 13, 12, 'index_65535_rank_2', LATER + put(0, 65535, 1) + END
     yield 13, 12, 'letter_0', LATER + letter(0, 0) + END
     yield 13, 12, 'letter_255', LATER + letter(0, 255) + END
     yield 13, 10, 'letter_0_rank_0', begin(0, 3) + letter(0, 0) + END
+    yield 13, 12, 'inverse_letter_0', LATER + inverse_letter(0, 0) + END
+    yield 13, 12, 'inverse_letter_254', LATER + inverse_letter(0, 254) + END
+    yield 13, 10, 'inverse_letter_0_rank_0', begin(0, 3) + inverse_letter(0, 0) + END
     yield 13, 20, 'letter_after_shows', AFTER_SHOWS + letter(0, 3) + END
     yield 13, 4093, 'show_at_the_end_of_a_full_sheet', filled(MOST_BYTES)[:-3] + show(4) + END
 
@@ -335,8 +375,19 @@ def wrong_ends():
     for name, more in (('end', END), ('unknown_byte', b'\xff'), ('cut_command', b'\x31'), ('begin', START), ('show', show(0)),
                        ('operand_out_of_range', show(9)), ('20_bytes', bytes(20))):
         yield 14, 13, f'{name}_after_end', LATER + END + more
+    yield 14, 13, 'inverse_letter_after_end_at_q_2', AT_EVEN_Q + END + inverse_letter(0, 1)
     yield 14, 21, 'byte_after_shows_and_end', AFTER_SHOWS + END + b'\x40'
     yield 14, 4095, 'byte_after_end_of_a_full_sheet', filled(MOST_BYTES - 1) + END
+
+
+def missing_inverses():
+    for name, q in EVEN.items():
+        yield 15, 12, f'q_is_{name}', begin(2, q) + unit(0) + inverse_letter(0, 1) + END
+    for m in RANKS[1:]:
+        yield 15, 10, f'letter_{m}_of_register_3_rank_{m}', begin(m, 2) + inverse_letter(3, m) + END
+    yield 15, 15, 'after_a_letter', AT_EVEN_Q + braid(0, (1, -1)) + END
+    yield 15, 20, 'after_shows', AT_EVEN_Q + SHOWS + inverse_letter(0, 2) + END
+    yield 15, 4092, 'at_the_end_of_a_full_sheet', filled(MOST_BYTES, 2)[:-7] + braid(0, (1, -1)) + END
 
 
 def competing_faults():
@@ -364,12 +415,29 @@ def competing_faults():
     yield 12, 0, 'before_14_end_first_and_bytes_after_it', END + START
     yield 13, 12, 'before_14_register_9_and_no_end', LATER + unit(9)
     yield 13, 12, 'before_14_register_9_and_bytes_after_end', LATER + unit(9) + END + b'\xff'
+    one = inverse_letter(0, 1)
+    yield 10, 12, 'before_15_unknown_then_inverse', AT_EVEN_Q + b'\xff' + one + END
+    yield 11, 12, 'before_15_inverse_cut', AT_EVEN_Q + one[:2]
+    yield 12, 0, 'before_15_inverse_first', one + AT_EVEN_Q + END
+    yield 12, 12, 'before_15_begin_again_then_inverse', AT_EVEN_Q + begin(2, 2) + one + END
+    yield 13, 0, 'before_15_rank_6_then_inverse', begin(6, 2) + one + END
+    yield 13, 12, 'before_15_inverse_of_letter_3', AT_EVEN_Q + inverse_letter(0, 3) + END
+    yield 13, 12, 'before_15_inverse_of_letter_0', AT_EVEN_Q + inverse_letter(0, 0) + END
+    yield 13, 12, 'before_15_inverse_on_register_9', AT_EVEN_Q + inverse_letter(9, 1) + END
+    yield 13, 12, 'before_15_register_9_then_inverse', AT_EVEN_Q + unit(9) + one + END
+    yield 15, 12, 'before_10_inverse_then_unknown', AT_EVEN_Q + one + b'\xff' + END
+    yield 15, 12, 'before_11_inverse_then_cut', AT_EVEN_Q + one + one[:2]
+    yield 15, 12, 'before_12_inverse_then_begin', AT_EVEN_Q + one + START + END
+    yield 15, 12, 'before_13_inverse_then_register_9', AT_EVEN_Q + one + unit(9) + END
+    yield 15, 12, 'before_14_inverse_and_no_end', AT_EVEN_Q + one
+    yield 15, 12, 'before_14_inverse_and_bytes_after_end', AT_EVEN_Q + one + END + b'\xff'
+    yield 15, 12, 'before_15_two_commands', AT_EVEN_Q + braid(0, (-2, -1)) + END
 
 
-REFUSALS = (refused_sizes, unknown_commands, cut_commands, misplaced_commands, operands_out_of_range, wrong_ends)
-GROUPS = {'document': documents, 'unit': units, 'set': sets, 'letter': some_letters, 'product': products,
-          'parameter': parameters, 'action': actions, 'slip': slips, 'sum': sums, 'scale': scales, 'pairing': pairings,
-          'equality': equalities, 'show': shows, 'count': counts, 'size': sizes, 'mixture': mixtures}
+REFUSALS = (refused_sizes, unknown_commands, cut_commands, misplaced_commands, operands_out_of_range, wrong_ends, missing_inverses)
+GROUPS = {'document': documents, 'unit': units, 'set': sets, 'letter': some_letters, 'inverse': inverse_letters,
+          'product': products, 'parameter': parameters, 'action': actions, 'slip': slips, 'sum': sums, 'scale': scales,
+          'pairing': pairings, 'equality': equalities, 'show': shows, 'count': counts, 'size': sizes, 'mixture': mixtures}
 
 
 def kit():

@@ -1,7 +1,7 @@
 """Calls on elements for the test program `hecke_vectors`, and their whole outcomes.
 
 A vector is a call, a rank, the word q or c, two lists of words, a word of letters, and the sizes of the lent result and
-scratch.
+scratch. A letter is a byte; a signed one is below 0 as 256 less.
 """
 import random
 
@@ -10,7 +10,7 @@ from reference.algebra import MOST_LETTERS, WORD, basis, size
 from reference.permutations import of_word, standard_word
 from reference.refusals import Refused
 
-SUM, SCALE, ACT_WORD, PRODUCT = range(1, 5)
+SUM, SCALE, ACT_WORD, PRODUCT, ACT_SIGNED_WORD = range(1, 6)
 LENT = 170  # each word of the result and the scratch before the call
 SHOWN = 120  # the most words that are written in full
 DIGEST_BASE = 0x5851F42D4C957F2D
@@ -24,7 +24,8 @@ def record(call, m, q, left, right, word, room, scratch):
     def words(a):
         return number(len(a), 2) + b''.join(number(x, 8) for x in a)
 
-    return (bytes([call, m]) + number(q, 8) + words(left) + words(right) + number(len(word), 2) + bytes(word)
+    return (bytes([call, m]) + number(q, 8) + words(left) + words(right) + number(len(word), 2)
+            + bytes(letter % 256 for letter in word)
             + number(room, 2) + number(scratch, 2))
 
 
@@ -41,12 +42,13 @@ def line(call, m, q, left, right, word, room, scratch):
     left, result, scratch = list(left), [LENT] * room, [LENT] * scratch
     calls = {SUM: lambda: algebra.call_sum(m, left, right, result), SCALE: lambda: algebra.call_scale(m, q, left, result),
              ACT_WORD: lambda: algebra.call_act(m, q, left, word),
+             ACT_SIGNED_WORD: lambda: algebra.call_act_signed(m, q, left, word),
              PRODUCT: lambda: algebra.call_product(m, q, left, right, result, scratch)}
     try:
         fields = ['A', calls[call]()]
     except Refused as refusal:
         fields = ['E', refusal.number, refusal.place, 0]
-    written = left if call == ACT_WORD else result
+    written = left if call in (ACT_WORD, ACT_SIGNED_WORD) else result
     fields += written if len(written) <= SHOWN else [digest(written)]
     if call == PRODUCT:
         fields.append(digest(scratch))
@@ -65,6 +67,10 @@ def on_scale(m, c, h, more=0):
 
 def on_word(m, q, h, word):
     return ACT_WORD, m, q, h, [], word, 0, 0
+
+
+def on_signed_word(m, q, h, word):
+    return ACT_SIGNED_WORD, m, q, h, [], word, 0, 0
 
 
 def on_product(m, q, h, g, more=0, scratch=0):
@@ -201,10 +207,111 @@ def order_of_checks(source):
     yield on_word(7, 3, h, [0] * (MOST_LETTERS + 1))
 
 
+# ---- words of signed letters
+
+def signed_worked_cases():
+    """Both ways at rank 1 with q = 3, the example in the comment of `hecke`; the inverse of T_1 at q = 1, 2^64 - 1 and 0."""
+    for word in ([-1], [1, 1, -1], [-1, 1], [1, 1]):
+        yield on_signed_word(1, 3, [1, 0], word)
+    for q in (1, WORD - 1, 0):
+        yield on_signed_word(1, q, [2, 3], [-1])
+
+
+def both_ways(source, word):
+    """The word with signs by chance."""
+    return [source.choice((1, -1)) * i for i in word]
+
+
+def signed_words(source):
+    """At ranks 0 to 4 and at odd and even q: the empty word; from rank 1 each letter by itself, both ways, and words with
+    letters above 0 alone, below 0 alone and both ways. Even q is refused for each of these that has a letter below 0."""
+    for m in range(5):
+        h = random_element(source, m)
+        for q in (*QS, source.randrange(0, WORD, 2), source.randrange(1, WORD, 2)):
+            word = [source.randint(1, m) for _ in range(9)] if m else []
+            letters = [[sign * i] for i in range(1, m + 1) for sign in (1, -1)]
+            for signed in (*letters, word, [-i for i in word], both_ways(source, word)) if m else ([],):
+                yield on_signed_word(m, q, h, signed)
+        yield on_signed_word(m, 3, h, [])
+        yield on_signed_word(m, 2, h, [])
+
+
+def mirrors(source):
+    """A word and then its mirror word read backwards, at ranks 1 to 4: in one call, and the second of two calls."""
+    for m in range(1, 5):
+        for q in (1, 3, WORD - 1, source.randrange(1, WORD, 2)):
+            h, word = random_element(source, m), both_ways(source, [source.randint(1, m) for _ in range(7)])
+            yield on_signed_word(m, q, h, word + algebra.mirror(word))
+            yield on_signed_word(m, q, algebra.act(m, q, h, word), algebra.mirror(word))
+
+
+def large_signed_words(source):
+    """At ranks 5 and 6 a word of each letter both ways, the mirror word that brings its result home, a word that even q has no
+    inverse for, and the letters m + 1 and -(m + 1)."""
+    for m in (5, 6):
+        h, q = random_element(source, m), source.randrange(1, WORD, 2)
+        word = both_ways(source, range(1, m + 1)) + list(range(-m, 0))
+        yield on_signed_word(m, q, h, word)
+        yield on_signed_word(m, q, algebra.act(m, q, h, word), algebra.mirror(word))
+        yield on_signed_word(m, q - 1, h, [m, -m])
+        yield on_signed_word(m, q, h, [-m, m + 1])
+        yield on_signed_word(m, q, h, [m, -(m + 1)])
+
+
+def signed_refusals(source):
+    """Letters 0, m + 1, -(m + 1), 127, -127 and -128 as words of one letter; from rank 1 also at the first, a middle and the
+    last of six indexes, after letters below 0 at an odd and an even q: 4 comes before 15, wherever the letters are.
+
+    Letters below 0 at even q, at each of six indexes and at two.
+    """
+    for m in (0, 1, 3):
+        h = random_element(source, m)
+        outside = 0, m + 1, -(m + 1), 127, -127, -128
+        for q, letter in ((q, letter) for q in (3, 2) for letter in outside):
+            yield on_signed_word(m, q, h, [letter])
+        if m:
+            plain = [1 + i % m for i in range(6)]
+            good = [-m, *both_ways(source, plain[1:])]
+            for q, index, letter in ((q, index, letter) for q in (3, 2) for index in (0, 2, 5) for letter in outside):
+                yield on_signed_word(m, q, h, good[:index] + [letter] + good[index + 1:])
+            for index in range(6):
+                yield on_signed_word(m, 2, h, plain[:index] + [-m] + plain[index + 1:])
+            yield on_signed_word(m, 2 ** 63, h, plain[:2] + [-1, 1, -m])
+            yield on_signed_word(m, 2, h, plain[:2] + [0, 1, -128, -m])
+
+
+def long_signed_words(source):
+    """4,096 letters, good and with a bad or a negative last letter; 4,097 letters, at an odd and an even q."""
+    h = random_element(source, 2)
+    most = [1 + i % 2 for i in range(MOST_LETTERS)]
+    mixed = both_ways(source, most)
+    for q in (3, 2):
+        for word in (most, mixed, most[:-1] + [-2], most[:-1] + [0], most[:-1] + [-3], most + [1], mixed + [-1], [0] + most):
+            yield on_signed_word(2, q, h, word)
+
+
+def order_of_signed_checks(source):
+    """1 before 2, 2 before 4, 4 before 15: each with all the later faults too."""
+    h = random_element(source, 2)
+    for q in (3, 2):
+        for m in (7, 8, 64, 255):
+            yield on_signed_word(m, q, h[:-1], [-1, 0])
+        for other in (h[:-1], h + [1], []):
+            yield on_signed_word(2, q, other, [])
+            yield on_signed_word(2, q, other, [-1, 0])
+            yield on_signed_word(2, q, other, [-1] * (MOST_LETTERS + 1))
+        yield on_signed_word(2, q, h, [-1] * (MOST_LETTERS + 1))
+        yield on_signed_word(2, q, h, [-1, -2, 0])
+        yield on_signed_word(2, q, h, [1, 2, -2, -1])
+    yield on_signed_word(7, 2, h * 840, [-1])
+
+
 def hecke_vectors():
-    """Calls of the four functions on elements, and their whole outcomes."""
+    """Calls of the five functions on elements, and their whole outcomes."""
     source = random.Random(0)
     vectors = [*worked_cases(), *random_calls(source), *large_calls(source), *ranks(source), *sizes(source),
-               *shortest_words(source), *words(source), *order_of_checks(source)]
+               *shortest_words(source), *words(source), *order_of_checks(source), *signed_worked_cases(), *signed_words(source),
+               *mirrors(source), *large_signed_words(source), *signed_refusals(source), *long_signed_words(source),
+               *order_of_signed_checks(source)]
     yield 'crates/hecke_vectors/stdin', b''.join(record(*v) for v in vectors)
     yield 'crates/hecke_vectors/stdout', ''.join(line(*v) for v in vectors).encode()

@@ -1,4 +1,4 @@
-"""Run sheets (document 01, "Run sheets"): bytes in, text out."""
+"""Run sheets (document 01, "Run sheets", and the laboratory's later requests): bytes in, text out."""
 from collections import namedtuple
 
 from reference import algebra
@@ -9,8 +9,8 @@ MOST_RANK = 5
 REGISTERS = 4
 REGISTER_WORDS = 720
 
-END, BEGIN, UNIT, SET, LETTER, PRODUCT, SUM, SCALE, SHOW, PAIR, EQUAL = (
-    0x00, 0x10, 0x20, 0x21, 0x30, 0x31, 0x32, 0x33, 0x40, 0x41, 0x42)
+END, BEGIN, UNIT, SET, LETTER, PRODUCT, SUM, SCALE, INVERSE, SHOW, PAIR, EQUAL = (
+    0x00, 0x10, 0x20, 0x21, 0x30, 0x31, 0x32, 0x33, 0x34, 0x40, 0x41, 0x42)
 
 # the operands of each command, by name, with their widths in bytes
 OPERANDS = {
@@ -22,6 +22,7 @@ OPERANDS = {
     PRODUCT: {'d': 1, 'a': 1, 'b': 1},
     SUM: {'d': 1, 'a': 1, 'b': 1},
     SCALE: {'r': 1, 'v': 8},
+    INVERSE: {'r': 1, 'i': 1},
     SHOW: {'r': 1},
     PAIR: {'a': 1, 'b': 1},
     EQUAL: {'a': 1, 'b': 1},
@@ -62,15 +63,17 @@ def check(sheet):
     """The commands of a sheet that passes its whole check."""
     if not 1 <= len(sheet) <= MOST_BYTES:
         raise Refused(9)
-    commands, at, m = [], 0, None
+    commands, at, m, q = [], 0, None, None
     while at < len(sheet):
         command, next_at = decode(sheet, at)
         if (command.code == BEGIN) != (at == 0):
             raise Refused(12, at)
         if command.code == BEGIN:
-            m = command.operands['m']
+            m, q = command.operands['m'], command.operands['q']
         if not all(in_range(m, name, value) for name, value in command.operands.items()):
             raise Refused(13, at)
+        if command.code == INVERSE and q % 2 == 0:
+            raise Refused(15, at)
         commands.append(command)
         at = next_at
         if command.code == END:
@@ -82,7 +85,7 @@ def check(sheet):
 
 def cost(m, code):
     """What a command counts in a sheet of rank m."""
-    if code == LETTER:
+    if code in (LETTER, INVERSE):
         return algebra.letter_count(m)
     if code == PRODUCT:
         return algebra.product_count(m, m)
@@ -103,6 +106,8 @@ def run(sheet):
             registers[r][operands['index']] = operands['v']
         elif code == LETTER:
             registers[r] = algebra.times_generator(m, q, registers[r], operands['i'])
+        elif code == INVERSE:
+            registers[r] = algebra.times_inverse(m, q, registers[r], operands['i'])
         elif code == PRODUCT:
             registers[d] = algebra.product(m, q, registers[a], registers[b])
         elif code == SUM:

@@ -1,9 +1,9 @@
 """Sheets that a program is tried with: valid ones, damaged ones, cut ones and the edges. The same every time."""
 import random
 
-from reference.algebra import WORD, size
-from reference.sheet import (BEGIN, EQUAL, LETTER, MOST_BYTES, MOST_RANK, OPERANDS, PAIR, PRODUCT, REGISTERS, SCALE, SET, SHOW, SUM,
-                             UNIT)
+from reference.algebra import WORD, mirror, size
+from reference.sheet import (BEGIN, EQUAL, INVERSE, LETTER, MOST_BYTES, MOST_RANK, OPERANDS, PAIR, PRODUCT, REGISTERS, SCALE, SET,
+                             SHOW, SUM, UNIT)
 
 END = b'\0'
 EXAMPLE = bytes.fromhex('10 01 03 00 00 00 00 00 00 00 20 00 30 00 01 30 00 01 40 00 00')
@@ -29,10 +29,15 @@ def random_command(source, m, codes):
     return command(code, *(values.get(name, lambda: source.randrange(REGISTERS))() for name in OPERANDS[code]))
 
 
+def braid(r, word):
+    """A row of commands 0x30 and 0x34: a word of signed letters on register r."""
+    return b''.join(command(LETTER if i > 0 else INVERSE, r, abs(i)) for i in word)
+
+
 def random_sheet(source, m, q, commands):
     """A valid sheet: some coefficients, any commands, and each register shown at the end."""
     body = [command(BEGIN, m, q)] + [random_command(source, m, [SET]) for _ in range(source.randrange(12))]
-    codes = [UNIT, SET, PRODUCT, SUM, SCALE, SHOW, PAIR, EQUAL] + [LETTER] * 3 * (m > 0)
+    codes = [UNIT, SET, PRODUCT, SUM, SCALE, SHOW, PAIR, EQUAL] + [LETTER] * 3 * (m > 0) + [INVERSE] * 3 * (m > 0 and q % 2)
     products = 0
     for _ in range(commands):
         one = random_command(source, m, codes)
@@ -66,8 +71,8 @@ def bounds(m):
     start = command(BEGIN, m, 3)
     for index in (0, size(m) - 1, size(m), 65535):
         yield start + command(SET, 3, index, 5) + command(SHOW, 3) + END
-    for i in (0, 1, m, m + 1, 255):
-        yield start + command(UNIT, 0) + command(LETTER, 0, i) + command(SHOW, 0) + END
+    for code, i in ((code, i) for code in (LETTER, INVERSE) for i in (0, 1, m, m + 1, 255)):
+        yield start + command(UNIT, 0) + command(code, 0, i) + command(SHOW, 0) + END
     for code, operands in ((UNIT, 1), (SHOW, 1), (PAIR, 2), (EQUAL, 2), (PRODUCT, 3), (SUM, 3)):
         for place in range(operands):
             for r in (3, 4, 255):
@@ -76,6 +81,33 @@ def bounds(m):
         yield start + command(SCALE, r, 2) + END
         yield start + command(SET, r, 0, 2) + END
         yield start + command(LETTER, r, m) + END
+        yield start + command(INVERSE, r, m) + END
+
+
+def there_and_back(source, m, q):
+    """A word of signed letters on a register with some words, and its mirror word read backwards: home again, if q is odd. The
+    register is shown after each, and compared with what it was."""
+    start = b''.join(command(SET, 2, source.randrange(size(m)), word(source)) for _ in range(9)) + command(SUM, 1, 2, 3)
+    letters = [source.choice((1, -1)) * source.randint(1, m) for _ in range(12)] + [-m]
+    return b''.join([command(BEGIN, m, q), start, braid(1, letters), command(SHOW, 1), command(EQUAL, 1, 2),
+                     braid(1, mirror(letters)), command(SHOW, 1), command(EQUAL, 1, 2), END])
+
+
+def missing_inverses(q):
+    """0x34 at rank 2 with a fault of its own, and with one before and after it: for even q 15 is given after 13 of the same
+    command and before all that comes later. For odd q the other faults are left."""
+    start, one, bad = command(BEGIN, 2, q) + command(UNIT, 0), command(INVERSE, 0, 1), command(UNIT, 4)
+    for i in (0, 3, 255):
+        yield start + command(INVERSE, 0, i) + END
+    for r in (4, 255):
+        yield start + command(INVERSE, r, 2) + one + END
+    for kept in (1, 2):
+        yield start + one[:kept]
+        yield start + one + one[:kept]
+    yield one + start + END
+    for rest in (one, one + one, command(LETTER, 0, 1) + one, bad + one, one + bad, one + b'\xff', one + b'\x31\0', one + start):
+        yield start + rest + END
+    yield from (start + one, start + one + END + END, start + END + one)
 
 
 def ranks():
@@ -106,7 +138,8 @@ def damaged(source, sheet):
 
 def every_command(m, q):
     """A short sheet with every command."""
-    return b''.join([command(BEGIN, m, q), command(UNIT, 0), command(SET, 1, size(m) - 1, 258), command(LETTER, 0, m), command(PRODUCT, 2, 0, 1),
+    return b''.join([command(BEGIN, m, q), command(UNIT, 0), command(SET, 1, size(m) - 1, 258), command(LETTER, 0, m),
+                     command(INVERSE, 0, 1), command(PRODUCT, 2, 0, 1),
                      command(SUM, 3, 2, 0), command(SCALE, 3, 513), command(SHOW, 3), command(PAIR, 2, 3), command(EQUAL, 0, 1)]) + END
 
 
@@ -131,6 +164,9 @@ def cases():
         for q in (0, 3, WORD - 1):
             yield from aliased(m, q)
         yield from bounds(m)
+    for q in PARAMETERS:
+        yield from missing_inverses(q)
+        yield from (there_and_back(source, m, q) for m in range(1, MOST_RANK + 1))
     yield from damaged(source, EXAMPLE)
     yield from damaged(source, every_command(2, 3))
     yield from sizes()

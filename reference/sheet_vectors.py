@@ -2,8 +2,9 @@
 import random
 
 from reference.algebra import WORD, size
-from reference.sheet import BEGIN, LETTER, MOST_BYTES, MOST_RANK, PRODUCT, SCALE, SET, SUM, call_run
-from reference.sheet_cases import END, EXAMPLE, PARAMETERS, aliased, command, damaged, random_sheet, sizes
+from reference.sheet import BEGIN, MOST_BYTES, MOST_RANK, PRODUCT, SCALE, SET, SUM, call_run
+from reference.sheet_cases import (END, EXAMPLE, PARAMETERS, aliased, braid, command, damaged, missing_inverses, random_sheet, sizes,
+                                   there_and_back)
 
 # random sheets of each rank: the reference takes a sixth of a second for a product of rank 5
 RANDOM = 8, 8, 8, 8, 5, 3
@@ -26,14 +27,15 @@ def line(sheet):
 
 
 def dense(source, m, q):
-    """A product of two registers with many words, a sum of it, a multiple and a letter."""
+    """A product of two registers with many words, a sum of it, a multiple, and a letter of each kind."""
     body = [command(SET, r, source.randrange(size(m)), source.randrange(WORD)) for _ in range(100) for r in (0, 1)]
-    body += [command(PRODUCT, 2, 0, 1), command(SUM, 3, 2, 1), command(SCALE, 3, source.randrange(WORD)), command(LETTER, 2, m)]
+    body += [command(PRODUCT, 2, 0, 1), command(SUM, 3, 2, 1), command(SCALE, 3, source.randrange(WORD)), braid(2, (m, -1))]
     return command(BEGIN, m, q) + b''.join(body) + END
 
 
 def sheets():
-    """Sheets of every rank; the example, cut and changed at each byte; begin left out and repeated; the sizes."""
+    """Sheets of every rank; inverse letters at odd and even q; the example, cut and changed at each byte; begin left out and
+    repeated; the sizes."""
     source = random.Random(0)
     yield EXAMPLE
     for m, number in enumerate(RANDOM):
@@ -43,6 +45,10 @@ def sheets():
         yield from aliased(m, source.choice(PARAMETERS))
     for m in range(1, MOST_RANK + 1):
         yield dense(source, m, 3)
+    for q in (2, 3):
+        yield from missing_inverses(q)
+    for m in range(1, MOST_RANK + 1):
+        yield from (there_and_back(source, m, q) for q in (3, WORD - 1, WORD - 2))
     yield from damaged(source, EXAMPLE)
     yield from (END, EXAMPLE[:10] + EXAMPLE)
     yield from (sheet for sheet in sizes() if len(sheet) <= MOST_BYTES + 1)

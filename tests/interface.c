@@ -76,10 +76,12 @@ static uint64_t *answer_of(size_t room) {
 #define WHOLE(array) (array), sizeof(array) / sizeof *(array)
 #define LIST_PART(...) put_bytes(lent.list + GUARDS, __VA_ARGS__), size_of(__VA_ARGS__)
 #define SECOND_PART(...) put_bytes(lent.second + GUARDS, __VA_ARGS__), size_of(__VA_ARGS__)
+#define SIGNED_PART(word, letters) (const int8_t *)put_bytes(lent.list + GUARDS, (const uint8_t *)(word), (letters)), (letters)
 #define LEFT_PART(...) put_words(lent.left + GUARDS, __VA_ARGS__), size_of(__VA_ARGS__)
 #define RIGHT_PART(...) put_words(lent.right + GUARDS, __VA_ARGS__), size_of(__VA_ARGS__)
 #define LIST(array) LIST_PART(WHOLE(array))
 #define SECOND(array) SECOND_PART(WHOLE(array))
+#define SIGNED(array) SIGNED_PART(array, sizeof(array))
 #define LEFT(array) LEFT_PART(WHOLE(array))
 #define RIGHT(array) RIGHT_PART(WHOLE(array))
 #define BYTES(size) lent.bytes + GUARDS, (size)
@@ -274,6 +276,56 @@ static void word_actions(void) {
     REFUSED(hecke_act_word(SIZE_MAX, 1, LIST(bad), WORDS(6), ANSWER), 1, 0);
 }
 
+/* A word of signed letters acts on the unit of rank m. */
+static uint64_t act_signed_on_unit(size_t m, uint64_t q, const int8_t *word, size_t letters) {
+    memset(lent.words + GUARDS, 0, sizes_due[m] * sizeof(uint64_t));
+    lent.words[GUARDS] = 1;
+    return hecke_act_signed_word(m, q, SIGNED_PART(word, letters), WORDS(sizes_due[m]), ANSWER);
+}
+
+/* The inverse of 3 modulo 2^64, and the figure-eight knot at q = 3: T_1 S T_1 S, where S is the inverse of T_2. With a for the
+ * inverse of 3 and b for a - 1 its words are 3bb, 2bb, 3ab, 2ab, 3aa and 0. */
+#define THIRD 0xaaaaaaaaaaaaaaabu
+#define B (THIRD - 1)
+#define FIGURE_EIGHT 3 * B * B, 2 * B * B, B, 2 * THIRD * B, THIRD, 0
+
+static void signed_word_actions(void) {
+    const int8_t there[] = {1, 1, -1}, eight[] = {1, -2, 1, -2, 2, -1, 2, -1}, turned[] = {-1, 1};
+    const int8_t bad[] = {-1, 3, 0}, below[] = {1, -3}, least[] = {-1, -128}, zero[] = {-2, 0}, late[] = {1, 2, -2, -1};
+    static int8_t longest[4097];
+    for (size_t i = 0; i < sizeof longest; i++) longest[i] = i % 2 == 0 ? 1 : -1;
+    GIVES(act_signed_on_unit(1, 3, turned, 1), WORDS_ARE(B, THIRD), ANSWERS(3));
+    GIVES(act_signed_on_unit(1, 3, turned, 2), WORDS_ARE(1, 0), ANSWERS(6));
+    GIVES(act_signed_on_unit(1, 3, there, 2), WORDS_ARE(3, 2), ANSWERS(6));
+    GIVES(act_signed_on_unit(1, 3, there, 3), WORDS_ARE(0, 1), ANSWERS(9));
+    /* T_1 is its own inverse at q = 1; -1 is its own inverse modulo 2^64 */
+    GIVES(act_signed_on_unit(1, 1, turned, 1), WORDS_ARE(0, 1), ANSWERS(3));
+    GIVES(act_signed_on_unit(1, UINT64_MAX, turned, 1), WORDS_ARE(UINT64_MAX - 1, UINT64_MAX), ANSWERS(3));
+    GIVES(act_signed_on_unit(2, 3, eight, 0), WORDS_ARE(1, 0, 0, 0, 0, 0), ANSWERS(0));
+    GIVES(act_signed_on_unit(2, 3, eight, 4), WORDS_ARE(FIGURE_EIGHT), ANSWERS(36));
+    GIVES(act_signed_on_unit(2, 3, eight, 8), WORDS_ARE(1, 0, 0, 0, 0, 0), ANSWERS(72));
+    GIVES(act_signed_on_unit(1, 3, longest, 4096), WORDS_ARE(1, 0), ANSWERS(12288));
+    GIVES(act_signed_on_unit(1, 3, longest, 4095), WORDS_ARE(0, 1), ANSWERS(12285));
+    GIVES(act_signed_on_unit(1, 2, there, 2), WORDS_ARE(2, 1), ANSWERS(6));
+    REFUSED(hecke_act_signed_word(1, 3, SIGNED(longest), WORDS(2), ANSWER), 4, 4096);
+    REFUSED(hecke_act_signed_word(1, 2, SIGNED(longest), WORDS(2), ANSWER), 4, 4096);
+    REFUSED(hecke_act_signed_word(1, 2, SIGNED_PART(longest, 4096), WORDS(2), ANSWER), 15, 1);
+    longest[4095] = -2;
+    REFUSED(hecke_act_signed_word(1, 2, SIGNED_PART(longest, 4096), WORDS(2), ANSWER), 4, 4095);
+    for (uint64_t q = 2; q <= 3; q++) {
+        REFUSED(hecke_act_signed_word(2, q, SIGNED(bad), WORDS(6), ANSWER), 4, 1);
+        REFUSED(hecke_act_signed_word(2, q, SIGNED(below), WORDS(6), ANSWER), 4, 1);
+        REFUSED(hecke_act_signed_word(2, q, SIGNED(least), WORDS(6), ANSWER), 4, 1);
+        REFUSED(hecke_act_signed_word(2, q, SIGNED(zero), WORDS(6), ANSWER), 4, 1);
+        REFUSED(hecke_act_signed_word(0, q, SIGNED(turned), WORDS(1), ANSWER), 4, 0);
+        REFUSED(hecke_act_signed_word(2, q, SIGNED(bad), WORDS(5), ANSWER), 2, 0);
+        REFUSED(hecke_act_signed_word(7, q, SIGNED(bad), WORDS(5040), ANSWER), 1, 0);
+        REFUSED(hecke_act_signed_word(SIZE_MAX, q, SIGNED(bad), WORDS(6), ANSWER), 1, 0);
+    }
+    REFUSED(hecke_act_signed_word(2, 0, SIGNED(late), WORDS(6), ANSWER), 15, 2);
+    REFUSED(hecke_act_signed_word(2, UINT64_MAX - 1, SIGNED(turned), WORDS(6), ANSWER), 15, 0);
+}
+
 static void products(void) {
     const uint64_t t1[] = {0, 1}, s2s1[] = {0, 0, 0, 0, 1, 0}, s1[] = {0, 1, 0, 0, 0, 0}, s2[] = {0, 0, 1, 0, 0, 0};
     const uint64_t three[] = {3}, five[] = {5};
@@ -335,6 +387,7 @@ static const uint8_t example[] = {0x10, 1, 3, 0, 0, 0, 0, 0, 0, 0, 0x20, 0, 0x30
 
 static void sheets(void) {
     const uint8_t end[] = {0}, unit[] = {0x20, 0, 0}, unknown[] = {0x11}, cut[] = {0x10, 1, 3, 0, 0, 0, 0, 0, 0};
+    const uint8_t inverse[] = {0x34, 0, 1, 0};
     SHEET_PASSES(WHOLE(example));
     SHEET_PASSES(SHEET(0, 0x00));
     SHEET_PASSES(SHEET(5, 0x21, 3, 0xcf, 2, 0, 0, 0, 0, 0, 0, 0, 0, 0x42, 3, 3, 0)); /* 0x2cf is 719 */
@@ -357,6 +410,14 @@ static void sheets(void) {
     SHEET_REFUSED(13, 10, SHEET(2, 0x30, 0, 0, 0));
     SHEET_REFUSED(13, 10, SHEET(2, 0x32, 3, 3, 4, 0));
     SHEET_REFUSED(14, 13, SHEET(2, 0x40, 3, 0, 0xff));
+    SHEET_REFUSED(11, 10, SHEET(2, 0x34, 0));
+    SHEET_REFUSED(12, 0, WHOLE(inverse));
+    SHEET_REFUSED(13, 10, SHEET(2, 0x34, 0, 3, 0));
+    SHEET_REFUSED(13, 10, SHEET(2, 0x34, 4, 1, 0));
+    SHEET_REFUSED(15, 10, SHEET(2, 0x34, 3, 2, 0));
+    SHEET_REFUSED(15, 13, SHEET(2, 0x30, 0, 1, 0x34, 0, 2, 0x34, 0, 1, 0xff));
+    SHEET_REFUSED(15, 10, SHEET(2, 0x34, 3, 2));
+    SHEET_REFUSED(14, 11, SHEET(2, 0, 0x34, 0, 1));
     SHEET_REFUSED(14, 12, SHEET(2, 0x40, 3));
 }
 
@@ -381,9 +442,14 @@ static void runs(void) {
     const uint8_t all[] = {0x10, 1, 3, 0, 0, 0, 0, 0, 0, 0, 0x20, 0, 0x30, 0, 1, 0x31, 1, 0, 0, 0x32, 2, 1, 0,
                            0x33, 2, 5, 0, 0, 0, 0, 0, 0, 0, 0x20, 3, 0x21, 3, 1, 0, 7, 0, 0, 0, 0, 0, 0, 0,
                            0x40, 1, 0x41, 2, 3, 0x42, 0, 1, 0};
+    /* the figure-eight, and an inverse that its letter undoes: 6 letters of either kind */
+    const uint8_t both[] = {0x10, 2, 3, 0, 0, 0, 0, 0, 0, 0, 0x20, 1, 0x30, 1, 1, 0x34, 1, 2, 0x30, 1, 1, 0x34, 1, 2,
+                            0x20, 0, 0x34, 0, 2, 0x30, 0, 2, 0};
     GIVES(hecke_run_sheet(LIST(example), REGISTERS(2880), ANSWER), ZEROS, REGISTER_IS(0, 3, 2), ANSWERS(6));
     GIVES(hecke_run_sheet(LIST(all), REGISTERS(2880), ANSWER), ZEROS, REGISTER_IS(0, 0, 1), REGISTER_IS(1, 3, 2),
           REGISTER_IS(2, 15, 15), REGISTER_IS(3, 1, 7), ANSWERS(16));
+    GIVES(hecke_run_sheet(LIST(both), REGISTERS(2880), ANSWER), ZEROS, REGISTER_IS(0, 1), REGISTER_IS(1, FIGURE_EIGHT),
+          ANSWERS(54));
     GIVES(hecke_run_sheet(LIST_PART(SHEET(5, 0x00)), REGISTERS(2880), ANSWER), ZEROS, ANSWERS(0));
     /* word 719 of register 3 is the last of all, and its bytes stand lowest first */
     GIVES(hecke_run_sheet(LIST_PART(SHEET(5, 0x21, 3, 0xcf, 2, 1, 2, 0, 0, 0, 0, 0, 0x80, 0)), REGISTERS(2880), ANSWER),
@@ -415,6 +481,8 @@ static void empty_slices(void) {
     REFUSED(hecke_scale(0, 1, LEFT(one), EMPTY, ANSWER), 2, 0);
     GIVES(hecke_act_word(0, 1, EMPTY, WORDS(1), ANSWER), ANSWERS(0));
     REFUSED(hecke_act_word(0, 1, EMPTY, EMPTY, ANSWER), 2, 0);
+    GIVES(hecke_act_signed_word(0, 2, EMPTY, WORDS(1), ANSWER), ANSWERS(0));
+    REFUSED(hecke_act_signed_word(0, 1, EMPTY, EMPTY, ANSWER), 2, 0);
     REFUSED(hecke_product(0, 1, EMPTY, RIGHT(one), WORDS(1), SCRATCH(6), ANSWER), 2, 0);
     REFUSED(hecke_product(0, 1, LEFT(one), EMPTY, WORDS(1), SCRATCH(6), ANSWER), 2, 0);
     REFUSED(hecke_product(0, 1, LEFT(one), RIGHT(one), EMPTY, SCRATCH(6), ANSWER), 2, 0);
@@ -425,6 +493,7 @@ static void empty_slices(void) {
 /* The calls write and refuse as before where the answer is a null pointer with length 0. */
 static void empty_answers(void) {
     const uint8_t tower[] = {0, 2}, bad[] = {2}, letter[] = {1}, other[] = {2};
+    const int8_t inverse[] = {-1};
     const uint64_t h[] = {0, 1};
     GIVES(hecke_tower_length(LIST(tower), EMPTY), NOTHING);
     REFUSED(hecke_tower_length(LIST(bad), EMPTY), 7, 0);
@@ -438,6 +507,8 @@ static void empty_answers(void) {
     REFUSED(hecke_scale(7, 5, LEFT(h), WORDS(2), EMPTY), 1, 0);
     GIVES(hecke_act_word(1, 3, LIST(letter), WORDS(2), EMPTY), WORDS_ARE(3 * PATTERN_WORD, 3 * PATTERN_WORD));
     REFUSED(hecke_act_word(1, 3, LIST(other), WORDS(2), EMPTY), 4, 0);
+    GIVES(hecke_act_signed_word(1, 3, SIGNED(inverse), WORDS(2), EMPTY), WORDS_ARE(THIRD * PATTERN_WORD, THIRD * PATTERN_WORD));
+    REFUSED(hecke_act_signed_word(1, 2, SIGNED(inverse), WORDS(2), EMPTY), 15, 0);
     GIVES(hecke_product(1, 3, LEFT(h), RIGHT(h), WORDS(2), SCRATCH(14), EMPTY), WORDS_ARE(3, 2), CLEARED(14));
     REFUSED(hecke_product(1, 3, LEFT(h), RIGHT(h), WORDS(2), SCRATCH(13), EMPTY), 3, 0);
     GIVES(hecke_run_sheet(LIST(example), REGISTERS(2880), EMPTY), ZEROS, REGISTER_IS(0, 3, 2));
@@ -447,6 +518,7 @@ static void empty_answers(void) {
 /* An answer of so many words takes what it has room for, and nothing where the call is refused. */
 static void answers_of(size_t room) {
     const uint8_t tower[] = {0, 2}, bad[] = {0, 3}, letter[] = {1};
+    const int8_t inverse[] = {-1};
     const uint64_t h[] = {0, 1};
     GIVES(hecke_tower_length(LIST(tower), ANSWER_OF(room)), ANSWERS(2));
     REFUSED(hecke_tower_length(LIST(bad), ANSWER_OF(room)), 7, 1);
@@ -461,6 +533,9 @@ static void answers_of(size_t room) {
     GIVES(hecke_act_word(1, 3, LIST(letter), WORDS(2), ANSWER_OF(room)),
           WORDS_ARE(3 * PATTERN_WORD, 3 * PATTERN_WORD), ANSWERS(3));
     REFUSED(hecke_act_word(1, 3, LIST(bad), WORDS(2), ANSWER_OF(room)), 4, 0);
+    GIVES(hecke_act_signed_word(1, 3, SIGNED(inverse), WORDS(2), ANSWER_OF(room)),
+          WORDS_ARE(THIRD * PATTERN_WORD, THIRD * PATTERN_WORD), ANSWERS(3));
+    REFUSED(hecke_act_signed_word(1, 2, SIGNED(inverse), WORDS(2), ANSWER_OF(room)), 15, 0);
     GIVES(hecke_product(1, 3, LEFT(h), RIGHT(h), WORDS(2), SCRATCH(14), ANSWER_OF(room)),
           WORDS_ARE(3, 2), CLEARED(14), ANSWERS(9));
     REFUSED(hecke_product(1, 3, LEFT(h), RIGHT(h), WORDS(2), SCRATCH(13), ANSWER_OF(room)), 3, 0);
@@ -481,6 +556,7 @@ int main(void) {
     sizes();
     sums_and_scalings();
     word_actions();
+    signed_word_actions();
     products();
     counts();
     sheets();

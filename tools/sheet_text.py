@@ -10,9 +10,9 @@ refused, and for a FILE that cannot be read; else 0. A refused sheet is decoded 
 
 The text has one command a line. Blank lines, and what follows a #, mean nothing.
 
-    begin M Q    unit R    set R INDEX V    letter R I    product D A B    sum D A B    scale R V
+    begin M Q    unit R    set R INDEX V    letter R I    inverse R I    product D A B    sum D A B    scale R V
     show R    pair A B    equal A B    end
-    letters R I I ..       a row of letter commands: how a braid word is written
+    letters R I I ..       a row of letter commands, and of inverse commands for -I: how a braid word is written
     bytes BYTE BYTE ..     bytes as they are: how decode writes what is no command
 
 Numbers are decimal, or hexadecimal after 0x. Q and V may be negative, down to -2^63: -1 is 2^64 - 1. INDEX may be a shortest
@@ -28,12 +28,12 @@ sys.path.insert(0, str(Path(__file__).resolve().parent.parent))
 from reference.algebra import place, size  # noqa: E402
 from reference.permutations import length, of_word  # noqa: E402
 from reference.refusals import Refused  # noqa: E402
-from reference.sheet import (BEGIN, END, EQUAL, LETTER, MOST_BYTES, MOST_RANK, OPERANDS, PAIR, PRODUCT,  # noqa: E402
+from reference.sheet import (BEGIN, END, EQUAL, INVERSE, LETTER, MOST_BYTES, MOST_RANK, OPERANDS, PAIR, PRODUCT,  # noqa: E402
                              REGISTERS, SCALE, SET, SHOW, SUM, UNIT, check, cost, decode, in_range)
 from reference.sheet_cases import command  # noqa: E402
 
-CODES = {'begin': BEGIN, 'unit': UNIT, 'set': SET, 'letter': LETTER, 'product': PRODUCT, 'sum': SUM, 'scale': SCALE,
-         'show': SHOW, 'pair': PAIR, 'equal': EQUAL, 'end': END}
+CODES = {'begin': BEGIN, 'unit': UNIT, 'set': SET, 'letter': LETTER, 'inverse': INVERSE, 'product': PRODUCT, 'sum': SUM,
+         'scale': SCALE, 'show': SHOW, 'pair': PAIR, 'equal': EQUAL, 'end': END}
 NAMES = {code: name for name, code in CODES.items()}
 FORMS = {name: ' '.join([name, *map(str.upper, OPERANDS[code])]) for name, code in CODES.items()}
 FORMS |= {'letters': 'letters R I I ..', 'bytes': 'bytes BYTE BYTE ..'}
@@ -67,10 +67,19 @@ def operand(name, width, text):
     raise ValueError(f'{name.upper()}: expected a number from {least} to {most}{words}, found "{text}"')
 
 
+def crossing(r, text):
+    """The command of one letter of a row: inverse for a letter with the sign -, else letter."""
+    try:
+        return line_bytes('inverse', r, text[1:]) if text[0] == '-' else line_bytes('letter', r, text)
+    except ValueError:
+        operand('r', 1, r)
+        raise ValueError(f'I: expected a number from -255 to 255, found "{text}"') from None
+
+
 def line_bytes(name, *texts):
     """The bytes of one line."""
     if name == 'letters' and len(texts) > 1:
-        return b''.join(line_bytes('letter', texts[0], i) for i in texts[1:])
+        return b''.join(crossing(texts[0], i) for i in texts[1:])
     if name == 'bytes' and texts:
         return bytes(operand('byte', 1, text) for text in texts)
     if name not in FORMS:
@@ -116,12 +125,13 @@ def to_text(sheet):
     """The text of a sheet, from which `to_bytes` makes the same bytes again, whatever they are."""
     commands, at = stand(sheet)
     lines = []
-    for r, group in groupby(commands, lambda one: one.operands['r'] if one.code == LETTER else None):
+    for r, group in groupby(commands, lambda one: one.operands['r'] if one.code in (LETTER, INVERSE) else None):
         row = list(group)
         if r is None or len(row) == 1:
             lines += map(line_of, row)
         else:
-            lines.append(' '.join(map(str, ['letters', r, *(one.operands['i'] for one in row)])))
+            signed = [f'{"-" if one.code == INVERSE else ""}{one.operands["i"]}' for one in row]
+            lines.append(' '.join(['letters', str(r), *signed]))
     if at < len(sheet):
         lines.append(' '.join(['bytes', *(f'{x:#04x}' for x in sheet[at:])]))
     why = refusal(sheet)
@@ -159,6 +169,9 @@ def meaning(sheet, number, at):
     if number == 12:
         return f'begin comes first, and once: "{line_of(one)}" ' + ('stands later' if at else 'comes first')
     m = sheet[1]
+    if number == 15:
+        q = int.from_bytes(sheet[2:10], 'little')
+        return f'no inverse: "{line_of(one)}" needs an inverse of q, and q is {q}, which is even'
     name, value = next((name, value) for name, value in one.operands.items() if not in_range(m, name, value))
     kind, allowed = bounds(m, name)
     return f'operand out of range: "{line_of(one)}" has the {kind} {value}, and {allowed}'

@@ -14,7 +14,17 @@ pub struct Row {
     pub times: Vec<(&'static str, Times)>,
 }
 
+/// The library's times for a word of 100 signed letters and for the same letters without their signs, at one rank.
+pub struct Signs {
+    pub m: usize,
+    pub signed: Times,
+    pub plain: Times,
+}
+
 type Conversion = fn(&[u8], &mut [u8]);
+
+/// Changes an element of rank m at an odd q by a word of signed letters, left to right.
+type SignedAction = fn(m: usize, q: u64, word: &[i8], element: &mut [u64]);
 
 /// Random words, the same every time (xorshift).
 struct Random(u64);
@@ -33,6 +43,10 @@ impl Random {
 
     fn element(&mut self, m: usize) -> Vec<u64> {
         (0..hecke::size(m)).map(|_| self.word()).collect()
+    }
+
+    fn signed_word(&mut self, m: usize) -> Vec<i8> {
+        (0..100).map(|_| (self.below(m) as i8 + 1) * if self.below(2) == 0 { 1 } else { -1 }).collect()
     }
 
     fn tower(&mut self, points: usize) -> Vec<u8> {
@@ -108,6 +122,48 @@ fn word(timed: bool, m: usize) -> Row {
     Row::new(timed, ("word of 100 letters", format!("rank {m}")), contenders, INPUTS, vec![1; hecke::size(m)])
 }
 
+/// The library's word of signed letters.
+const SIGNED: SignedAction = |m, q, word, element| {
+    hecke::act_signed_word(m, q, word, element).unwrap();
+};
+
+fn signed_word(timed: bool, m: usize) -> Row {
+    let inputs = &inputs(|random| (random.word() | 1, random.signed_word(m), random.element(m)));
+    let by: [(&str, SignedAction); 3] =
+        [("library", SIGNED), ("(a)", nested::act_signed_word), ("(b)", lists::act_signed_word)];
+    let contenders = by.into_iter().map(|(name, act)| {
+        let run = move |i: usize, element: &mut Vec<u64>| {
+            let (q, word, start) = &inputs[i];
+            element.copy_from_slice(start);
+            act(m, *q, word, element);
+        };
+        (name, run)
+    });
+    Row::new(timed, ("word of 100 signed letters", format!("rank {m}")), contenders, INPUTS, vec![1; hecke::size(m)])
+}
+
+/// Times a word of signed letters, about half of them inverses, and the same letters without their signs, in turn.
+fn signs(m: usize) -> Signs {
+    let inputs = &inputs(|random| {
+        let word = random.signed_word(m);
+        let plain: Vec<u8> = word.iter().map(|letter| letter.unsigned_abs()).collect();
+        (random.word() | 1, word, plain, random.element(m))
+    });
+    let mut contenders = [true, false].map(|signed| {
+        move |i: usize, element: &mut Vec<u64>| {
+            let (q, word, plain, start) = &inputs[i];
+            element.copy_from_slice(start);
+            if signed {
+                SIGNED(m, *q, word, element);
+            } else {
+                hecke::act_word(m, *q, plain, element).unwrap();
+            }
+        }
+    });
+    let times = race(&mut contenders, &vec![1; hecke::size(m)]);
+    Signs { m, signed: times[0], plain: times[1] }
+}
+
 fn conversion(timed: bool, call: &'static str, points: usize, given: [Vec<u8>; INPUTS], by: [Conversion; 2]) -> Row {
     let blank = vec![255; 2 * points - 1 - given[0].len()];
     let given = &given;
@@ -147,12 +203,18 @@ fn whole_sheet(timed: bool, name: &str) -> Row {
     Row::new(timed, ("whole sheet", name.to_string()), contenders, 1, Vec::new())
 }
 
+/// Signed letters beside plain ones, at each rank.
+pub fn all_signs() -> Vec<Signs> {
+    (3..=6).map(signs).collect()
+}
+
 /// All cases, timed or only compared.
 pub fn rows(timed: bool) -> Vec<Row> {
     let ranks = 3..=6;
     let points = [1, 4, 8, 16, 32, 64];
     let mut rows: Vec<Row> = ranks.clone().map(|m| product(timed, m)).collect();
-    rows.extend(ranks.map(|m| word(timed, m)));
+    rows.extend(ranks.clone().map(|m| word(timed, m)));
+    rows.extend(ranks.map(|m| signed_word(timed, m)));
     rows.extend(points.map(|n| tower_of_images(timed, n)));
     rows.extend(points.map(|n| images_of_tower(timed, n)));
     rows.extend(["square.sheet", "products.sheet"].map(|name| whole_sheet(timed, name)));

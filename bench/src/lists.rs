@@ -3,6 +3,7 @@
 //! What formula 4.1 asks of permutations stands in tables, made once: for each s_i the pairs of places of w and w s_i with w s_i
 //! longer, and for each place a shortest word.
 
+use crate::nested::inverse;
 use plain::element::{place, Group};
 use plain::perm;
 use std::sync::OnceLock;
@@ -46,6 +47,13 @@ impl Lists {
         }
     }
 
+    /// x times the inverse of T_i in the place of x, from the inverse of q: w and w s_i change their parts.
+    fn inverse_letter(&self, inverse: u64, x: &mut [u64], i: u8) {
+        for (short, long) in self.places(i) {
+            (x[long], x[short]) = exchanged(inverse, x[long], x[short]);
+        }
+    }
+
     /// x T_i in the place of y.
     fn letter_into(&self, q: u64, x: &[u64], i: u8, y: &mut [u64]) {
         for (short, long) in self.places(i) {
@@ -83,6 +91,17 @@ fn add_multiple(sum: &mut [u64], c: u64, element: &[u64]) {
 pub fn act_word(m: usize, q: u64, word: &[u8], element: &mut [u64]) {
     for &i in word {
         Lists::of_rank(m).letter(q, element, i);
+    }
+}
+
+/// The word's signed letters act on the element of rank m, left to right, for odd q.
+pub fn act_signed_word(m: usize, q: u64, word: &[i8], element: &mut [u64]) {
+    let inverse = inverse(q);
+    for &i in word {
+        match i {
+            1.. => Lists::of_rank(m).letter(q, element, i as u8),
+            _ => Lists::of_rank(m).inverse_letter(inverse, element, i.unsigned_abs()),
+        }
     }
 }
 

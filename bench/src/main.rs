@@ -31,10 +31,10 @@ fn main() -> io::Result<()> {
         }
         [] => {
             let rows = cases::rows(true);
-            println!("{}\n{}", page::table(&rows), page::aims(&rows));
+            println!("{}\n{}\n{}", page::table(&rows), page::signs(&cases::all_signs()), page::aims(&rows));
         }
         ["--write"] => {
-            let page = page::page(&cases::rows(true));
+            let page = page::page(&cases::rows(true), &cases::all_signs());
             print!("{page}");
             std::fs::write(Path::new(env!("CARGO_MANIFEST_DIR")).join("../docs/BENCHMARKS.md"), page)?;
         }

@@ -27,23 +27,27 @@ impl Algebra {
         Algebra { q, r: q.wrapping_sub(1) }
     }
 
-    /// x T_j in the place of x, of rank m.
-    fn letter(self, x: &mut [u64], m: usize, j: usize) {
+    /// x T_j in the place of x, of rank m; or, with the inverse of q for q, x times the inverse of T_j.
+    fn letter<const INVERSE: bool>(self, x: &mut [u64], m: usize, j: usize) {
         let block = FACTORIAL[m];
         let (below, rest) = x.split_at_mut((m - j) * block);
         let (first, rest) = rest.split_at_mut(block);
         let (second, above) = rest.split_at_mut(block);
         for (s, t) in first.iter_mut().zip(second) {
-            (*s, *t) = (self.q.wrapping_mul(*t), s.wrapping_add(self.r.wrapping_mul(*t)));
+            (*s, *t) = if INVERSE {
+                (t.wrapping_add(self.r.wrapping_mul(*s)), self.q.wrapping_mul(*s))
+            } else {
+                (self.q.wrapping_mul(*t), s.wrapping_add(self.r.wrapping_mul(*t)))
+            };
         }
-        below.chunks_exact_mut(block).for_each(|x| self.letter(x, m - 1, j));
-        above.chunks_exact_mut(block).for_each(|x| self.letter(x, m - 1, j - 1));
+        below.chunks_exact_mut(block).for_each(|x| self.letter::<INVERSE>(x, m - 1, j));
+        above.chunks_exact_mut(block).for_each(|x| self.letter::<INVERSE>(x, m - 1, j - 1));
     }
 
     /// x T_a(j,l) in the place of x, of rank m, for l of at least 1.
     fn act(self, x: &mut [u64], work: &mut [u64], m: usize, j: usize, l: usize) {
         if l == 1 {
-            return self.letter(x, m, j);
+            return self.letter::<false>(x, m, j);
         }
         let block = FACTORIAL[m];
         let (below, rest) = x.split_at_mut((m - j) * block);
@@ -97,7 +101,23 @@ impl Algebra {
 /// The word's generators T_i act on the element of rank m, left to right.
 pub fn act_word(m: usize, q: u64, word: &[u8], element: &mut [u64]) {
     for &i in word {
-        Algebra::new(q).letter(element, m, i as usize);
+        Algebra::new(q).letter::<false>(element, m, i as usize);
+    }
+}
+
+/// The inverse of an odd q modulo 2^64: it is right in the lowest 3 bits at first, and in twice as many after each step.
+pub fn inverse(q: u64) -> u64 {
+    (0..5).fold(q, |x, _| x.wrapping_mul(2u64.wrapping_sub(q.wrapping_mul(x))))
+}
+
+/// The word's signed letters act on the element of rank m, left to right, for odd q.
+pub fn act_signed_word(m: usize, q: u64, word: &[i8], element: &mut [u64]) {
+    let (algebra, turned) = (Algebra::new(q), Algebra::new(inverse(q)));
+    for &i in word {
+        match i {
+            1.. => algebra.letter::<false>(element, m, i as usize),
+            _ => turned.letter::<true>(element, m, i.unsigned_abs() as usize),
+        }
     }
 }
 

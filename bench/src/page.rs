@@ -1,6 +1,6 @@
 //! The table of times, and the page that it stands on.
 
-use crate::cases::Row;
+use crate::cases::{Row, Signs};
 use crate::clock::Times;
 use std::fmt::Write;
 use std::process::Command;
@@ -9,7 +9,7 @@ const HEAD: &str = "\
 # Benchmarks
 
 The library's calls beside plain Rust and C, all in one run on one machine. `cargo run --release --offline -p bench -- --write`
-makes this page; without `--write` it prints the two tables, and with `--check` it compares all results and times nothing. With
+makes this page; without `--write` it prints the three tables, and with `--check` it compares all results and times nothing. With
 the variable HECKE_BEFORE set to the full path of an older `libhecke_c.a`, its products and words take part too, as `before`.
 ";
 
@@ -34,7 +34,8 @@ All results, and the scratch after a product, are compared before the clock star
 on the same of eight random inputs; a time is the mean over a batch of calls, the least over all rounds with the median in
 brackets. Result slices hold what the call before left: nothing is cleared for a call. Every product clears the first (m + 6) M
 words of its scratch at its end, as document 01 asks, and this is timed. A word's element is copied from the input first, which
-is timed too. Of one point nothing is converted: these rows are what a call costs by itself, its checks and its returned word.
+is timed too. A signed word has an odd q and letters with random signs; the inverse of q, which the library counts as free, is found
+in each call and timed. In the table of letters both ways the library's two calls take turns on the same letters. Of one point nothing is converted: these rows are what a call costs by itself, its checks and its returned word.
 Up to 8 points it is a large part of the time, and the ratios there change with the layout of both programs: builds before this
 page gave 1.2 to 1.8 for tower to image list at 4 points, at 9 to 12 ns for (a). A sheet is one process: its start and both
 pipes are timed. Ratios are those of the least times.
@@ -127,6 +128,16 @@ pub fn table(rows: &[Row]) -> String {
     format!("{}{rule}|\n{lines}", joined(heads))
 }
 
+/// The table of signed letters beside plain ones.
+pub fn signs(all: &[Signs]) -> String {
+    let mut text = String::from("| size | 100 signed letters | 100 plain letters | signed / plain |\n|---|---|---|---|\n");
+    for Signs { m, signed, plain } in all {
+        let ratio = signed.least / plain.least;
+        writeln!(text, "| rank {m} | {} | {} | {ratio:.2} |", time(Some(signed)), time(Some(plain))).unwrap();
+    }
+    text
+}
+
 /// The aims, with what was measured and whether it holds.
 pub fn aims(rows: &[Row]) -> String {
     let largest = |call: &str, lower: &str| {
@@ -179,6 +190,7 @@ fn machine() -> String {
 }
 
 /// The whole page.
-pub fn page(rows: &[Row]) -> String {
-    format!("{HEAD}\n{}\n## Times\n\n{}\n## Aims\n\n{}{TERMS}", machine(), table(rows), aims(rows))
+pub fn page(rows: &[Row], all: &[Signs]) -> String {
+    let (machine, times, signs, aims) = (machine(), table(rows), signs(all), aims(rows));
+    format!("{HEAD}\n{machine}\n## Times\n\n{times}\n## Letters both ways\n\n{signs}\n## Aims\n\n{aims}{TERMS}")
 }

@@ -7,6 +7,7 @@ from reference.refusals import Refused
 
 # q = 0 and 1 are edges, and at q = 2 a factor q - 1 cannot be seen
 PARAMETERS = (0, 1, 2, 3, WORD - 1, 0x9E37_79B9_7F4A_7C15)
+ODD = [q for q in PARAMETERS if q % 2]
 
 
 def random_element(source: random.Random, m):

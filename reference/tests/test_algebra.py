@@ -1,4 +1,4 @@
-"""Document 01's sections "Elements and their product" and "The count": cases, edges, and the two methods."""
+"""Document 01's sections "Elements and their product" and "The count": cases, edges, and the two methods; inverse letters."""
 import random
 import unittest
 from math import factorial
@@ -6,7 +6,7 @@ from math import factorial
 from reference import algebra as a
 from reference import permutations as p
 from reference.nested import Nested, blocks
-from reference.tests.support import PARAMETERS, random_element, refused
+from reference.tests.support import ODD, PARAMETERS, random_element, refused
 
 
 def word_basis(m, word):
@@ -154,6 +154,76 @@ class Laws(unittest.TestCase):
                 self.assertEqual(a.pairing(m, q, h, g), a.product(m, q, h, turned)[0])
 
 
+class Inverses(unittest.TestCase):
+    def test_inverse_of_t_1(self):
+        """At q = 3 the inverse of T_1 is a T_1 + a - 1, where 3 a = 2^65 + 1."""
+        a_ = (2 ** 65 + 1) // 3
+        self.assertEqual(a.times_inverse(1, 3, [1, 0], 1), [a_ - 1, a_])
+        self.assertEqual(a.times_inverse(1, 1, [5, 7], 1), [7, 5])
+        self.assertEqual(a.times_inverse(1, a.WORD - 1, [1, 0], 1), [a.WORD - 2, a.WORD - 1])
+
+    def test_on_basis_elements(self):
+        """T_w times the inverse of T_s is T_{ws} when ws is shorter than w, else q' T_{ws} + (q' - 1) T_w."""
+        for m in range(1, 5):
+            for i in range(1, m + 1):
+                for w in a.permutations(m):
+                    ws = p.product(w, p.generator(m, i))
+                    for q in ODD:
+                        expected, inverse = a.basis(ws), pow(q, -1, a.WORD)
+                        if p.length(ws) > p.length(w):
+                            expected = a.add(a.scale(inverse, a.basis(ws)), a.scale(inverse - 1, a.basis(w)))
+                        self.assertEqual(a.times_inverse(m, q, a.basis(w), i), expected)
+
+    def test_undoes_a_letter_and_is_undone(self):
+        source = random.Random(11)
+        for m in range(1, 5):
+            for q in ODD:
+                h = random_element(source, m)
+                for i in range(1, m + 1):
+                    self.assertEqual(a.act(m, q, h, [i, -i]), h)
+                    self.assertEqual(a.act(m, q, h, [-i, i]), h)
+
+    def test_is_a_product(self):
+        source = random.Random(12)
+        for m in range(1, 4):
+            for q in ODD:
+                h = random_element(source, m)
+                for i in range(1, m + 1):
+                    self.assertEqual(a.act(m, q, h, [-i]), a.product(m, q, h, a.times_inverse(m, q, a.unit(m), i)))
+
+    def test_relations(self):
+        source = random.Random(13)
+        for m in range(2, 5):
+            for q in ODD:
+                h = random_element(source, m)
+                for i in range(1, m):
+                    for word, same in (([i, i + 1, -i], [-i - 1, i, i + 1]), ([-i, -i - 1, -i], [-i - 1, -i, -i - 1])):
+                        self.assertEqual(a.act(m, q, h, word), a.act(m, q, h, same))
+                    for j in range(i + 2, m + 1):
+                        self.assertEqual(a.act(m, q, h, [i, -j]), a.act(m, q, h, [-j, i]))
+
+    def test_mirror_brings_home(self):
+        source = random.Random(14)
+        self.assertEqual(a.mirror([1, -2, 3]), [-3, 2, -1])
+        for m in range(1, 6):
+            for q in ODD:
+                start = random_element(source, m)
+                h, word = list(start), [source.choice((1, -1)) * source.randint(1, m) for _ in range(21)]
+                count = 21 * a.letter_count(m)
+                self.assertEqual(a.call_act_signed(m, q, h, word), count)
+                self.assertNotEqual(h, start)
+                self.assertEqual(a.call_act_signed(m, q, h, a.mirror(word)), count)
+                self.assertEqual(h, start)
+
+    def test_letters_above_0_are_those_of_a_word(self):
+        source = random.Random(15)
+        for q in PARAMETERS:
+            h = random_element(source, 3)
+            g, word = list(h), [source.randint(1, 3) for _ in range(21)]
+            self.assertEqual(a.call_act_signed(3, q, g, word), a.call_act(3, q, h, word))
+            self.assertEqual(g, h)
+
+
 class Calls(unittest.TestCase):
     def test_results_and_counts(self):
         result, scratch = [9] * 6, [9] * 50
@@ -226,3 +296,27 @@ class Refusals(unittest.TestCase):
                 a.call_act(2, 3, h, word)
         with refused(self, 4, 0, h := [1]):
             a.call_act(0, 3, h, [1])
+
+    def test_signed_words(self):
+        """1, 2, 4 and 15 in this order; even q has no inverse and is refused only where a letter needs one."""
+        for q in (2, 3):
+            for m, words in ((7, 5040), (255, 0)):
+                with refused(self, 1, 0, h := [9] * words):
+                    a.call_act_signed(m, q, h, [0, -1])
+            for words in (0, 5, 7):
+                with refused(self, 2, 0, h := [9] * words):
+                    a.call_act_signed(2, q, h, [-1, 0])
+            for word, place in (([0], 0), ([1, 3], 1), ([-1, -3], 1), ([-1, 2, 0, 9], 2), ([-128], 0), ([1, -128], 1), ([127], 0),
+                                ([0] * 4097, 4096), ([-1] * 4097, 4096), ([-1] * 4095 + [-3], 4095)):
+                with refused(self, 4, place, h := [1] * 6):
+                    a.call_act_signed(2, q, h, word)
+            for letter in (1, 0, -1, -128):
+                with refused(self, 4, 0, h := [1]):
+                    a.call_act_signed(0, q, h, [letter])
+        for q in (0, 2, 2 ** 63, a.WORD - 2):
+            for word, place in (([-1], 0), ([1, 2, -2, -1], 2), ([2] * 4095 + [-1], 4095)):
+                with refused(self, 15, place, h := [1] * 6):
+                    a.call_act_signed(2, q, h, word)
+            self.assertEqual(a.call_act_signed(2, q, [1] * 6, [1, 2]), 18)
+            self.assertEqual(a.call_act_signed(2, q, [1] * 6, []), 0)
+            self.assertEqual(a.call_act_signed(0, q, [1], []), 0)

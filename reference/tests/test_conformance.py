@@ -11,7 +11,7 @@ from pathlib import Path
 from time import monotonic
 
 from reference import sheet as s
-from reference.algebra import WORD, size
+from reference.algebra import WORD, mirror, size
 from reference.conformance import PARAMETERS, strangers
 from reference.refusals import Refused
 from reference.sheet_cases import END, EXAMPLE, command
@@ -41,11 +41,11 @@ def commands_of(sheet):
 
 
 def faults(sheet):
-    """Every condition of document 01's table that holds in the sheet, with its place, in the order of the table: up to the end
-    command, or to what cannot be read as a command."""
+    """Every condition of document 01's table, and 15, that holds in the sheet, with its place, in the order of the table: up to
+    the end command, or to what cannot be read as a command."""
     if not 1 <= len(sheet) <= s.MOST_BYTES:
         yield 9, 0
-    at, m = 0, sheet[1] if len(sheet) > 1 else 0
+    at, m, q = 0, sheet[1] if len(sheet) > 1 else 0, int.from_bytes(sheet[2:10], 'little')
     while at < len(sheet):
         code, here = sheet[at], sheet[at + 1:]
         if code not in s.OPERANDS:
@@ -58,6 +58,8 @@ def faults(sheet):
             yield 12, at
         if not all(s.in_range(m, name, value) for name, value in operands(widths, here).items()):
             yield 13, at
+        if code == s.INVERSE and q % 2 == 0 and sheet[0] == s.BEGIN:
+            yield 15, at
         if cut or code not in s.OPERANDS:
             return
         at += 1 + sum(widths.values())
@@ -144,9 +146,10 @@ class Commands(Kit):
     def test_each_rank(self):
         for m in RANKS:
             codes = {one.code for commands in self.of_rank(m) for one in commands}
-            self.assertEqual(codes, set(s.OPERANDS) - ({s.LETTER} if m == 0 else set()), m)
-            taken = {one.operands['i'] for commands in self.of_rank(m) for one in commands if one.code == s.LETTER}
-            self.assertEqual(taken, set(range(1, m + 1)))
+            self.assertEqual(codes, set(s.OPERANDS) - ({s.LETTER, s.INVERSE} if m == 0 else set()), m)
+            for code in (s.LETTER, s.INVERSE):
+                taken = {one.operands['i'] for commands in self.of_rank(m) for one in commands if one.code == code}
+                self.assertEqual(taken, set(range(1, m + 1)))
 
     def test_aliased_destinations_at_each_rank(self):
         for m in RANKS[1:]:
@@ -177,6 +180,24 @@ class Commands(Kit):
             for b in (one.operands['b'] for one in commands if one.code == s.PRODUCT and commands[0].operands['q'] > 2):
                 taken.add(tuple((values['index'], values['v']) for values in sets if values['r'] == b))
         self.assertLessEqual({((l * factorial(j), 1),) for j in (1, 2, 3) for l in range(1, j + 1)}, taken)
+
+    def test_mirror_words_bring_home_at_each_rank(self):
+        """A word of both kinds of letters on one register, and its mirror word read backwards; the register is compared with
+        another before and after the second, and only then equal."""
+        sheets = [name for name, commands in self.valid.items() if self.there_and_back(commands)]
+        home = [self.texts[name] for name in sheets if self.texts[name].splitlines()[-3:-1] == ['Q 0', 'Q 1']]
+        self.assertEqual({int(text.split()[1]) for text in home}, set(RANKS[1:]))
+
+    def there_and_back(self, commands):
+        """Whether the sheet's last letters are a word of 15, of both kinds, and its mirror word read backwards."""
+        sign = {s.LETTER: 1, s.INVERSE: -1}
+        signed = [sign[one.code] * one.operands['i'] for one in commands if one.code in sign]
+        word = signed[-30:-15]
+        return {i > 0 for i in word} == {True, False} and signed[-15:] == mirror(word)
+
+    def test_inverse_letters_at_each_odd_parameter(self):
+        found = {commands[0].operands['q'] for commands in self.valid.values() if any(one.code == s.INVERSE for one in commands)}
+        self.assertLessEqual({q for q in PARAMETERS.values() if q % 2}, found)
 
     def test_a_count_over_many_commands(self):
         codes = [Counter(one.code for one in commands) for commands in self.valid.values()]
@@ -219,11 +240,12 @@ class Refusals(Kit):
         return wrong
 
     def test_each_number_first_and_later(self):
-        places = {number: {at for _, (given, at) in self.first_faults() if given == number} for number in range(9, 15)}
+        places = {number: {at for _, (given, at) in self.first_faults() if given == number} for number in range(9, 16)}
         self.assertEqual(places[9], {0})
         for number in (10, 11, 12, 13):
             self.assertIn(0, places[number])
             self.assertGreaterEqual(len(places[number]), 3)
+        self.assertLessEqual({10, 12, 15, 4092}, places[15])
         ends = {at == len(sheet) for sheet, (number, at) in self.first_faults() if number == 14}
         self.assertEqual(ends, {True, False})
         self.assertIn(s.MOST_BYTES, places[14])
@@ -249,9 +271,10 @@ class Refusals(Kit):
         for m in RANKS:
             self.assertLessEqual({(m, s.SET, 'index', index) for index in (0, size(m) - 1)}, at_bound)
             self.assertIn((m, s.SET, 'index', size(m)), past)
-            self.assertLessEqual({(m, s.LETTER, 'i', i) for i in (1, m) if m}, at_bound)
-            self.assertIn((m, s.LETTER, 'i', m + 1), past)
-        self.assertLessEqual({(m, s.LETTER, 'i', 0) for m in (0, 2)}, past)
+            for code in (s.LETTER, s.INVERSE):
+                self.assertLessEqual({(m, code, 'i', i) for i in (1, m) if m}, at_bound)
+                self.assertIn((m, code, 'i', m + 1), past)
+        self.assertLessEqual({(m, code, 'i', 0) for m in (0, 2) for code in (s.LETTER, s.INVERSE)}, past)
 
     def test_order_of_checks(self):
         """The first of two conditions is the one given: those at one command, and those at two."""
@@ -259,14 +282,18 @@ class Refusals(Kit):
         for (number, place), *others in self.faults.values():
             for other, at in others:
                 (one if at == place else two).add((number, other))
-        self.assertLessEqual({(10, 12), (11, 12), (11, 13), (12, 13)}, one)
-        self.assertLessEqual(set(product((12, 13), (10, 11, 12, 13, 14))), two)
+        self.assertLessEqual({(10, 12), (11, 12), (11, 13), (12, 13), (11, 15), (13, 15)}, one)
+        self.assertLessEqual(set(product((12, 13, 15), (10, 11, 12, 13, 14))) | {(12, 15), (13, 15), (15, 15)}, two)
         self.assertLessEqual({(9, 10), (9, 14)}, one | two)
 
+    def test_each_even_parameter(self):
+        missing = {int.from_bytes(sheet[2:10], 'little') for sheet, (number, _) in self.first_faults() if number == 15}
+        self.assertLessEqual({q for q in PARAMETERS.values() if q % 2 == 0} | {WORD - 2}, missing)
+
     def test_bytes_after_the_end_are_no_commands(self):
-        tails = [sheet[at:] for sheet, (number, at) in self.first_faults() if number == 14]
-        judged = {number for tail in tails for number, _ in faults(command(s.BEGIN, 2, 3) + tail)}
-        self.assertLessEqual({10, 11, 12, 13}, judged)
+        tails = [sheet[:10] + sheet[at:] for sheet, (number, at) in self.first_faults() if number == 14]
+        judged = {number for sheet in tails for number, _ in faults(sheet)}
+        self.assertLessEqual({10, 11, 12, 13, 15}, judged)
 
 
 TEXTS = {EXAMPLE: DOCUMENT['example_square_of_t_1'].encode(), b'': b'E 9 0\n'}

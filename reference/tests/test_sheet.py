@@ -1,4 +1,4 @@
-"""Document 01's section "Run sheets": the example, each command, and each refusal with its place."""
+"""Run sheets: document 01's example, each command, and each refusal with its place."""
 import subprocess
 import sys
 import unittest
@@ -73,6 +73,15 @@ class Commands(unittest.TestCase):
         lines = [f'{index} {x}' for index, x in enumerate(expected) if x]
         self.assertEqual(s.printed(sheet).splitlines(), ['H 2 3', 'R 2', *lines, f'N {9 + 9 + 118 + 6 + 6}'])
 
+    def test_inverse_letter(self):
+        """A letter and then its inverse leave the unit, and each counts 3M/2."""
+        third = (2 ** 65 + 1) // 3
+        sheet = begin(1, 3) + bytes([0x20, 0, 0x34, 0, 1, 0x40, 0, 0x30, 0, 1, 0x40, 0]) + END
+        self.assertEqual(s.printed(sheet), f'H 1 3\nR 0\n0 {third - 1}\n1 {third}\nR 0\n0 1\nN 6\n')
+        h = a.act(3, 5, a.unit(3), [1, -2, 3, -1])
+        sheet = begin(3, 5) + bytes([0x20, 2, 0x30, 2, 1, 0x34, 2, 2, 0x30, 2, 3, 0x34, 2, 1]) + END
+        self.assertEqual((s.run(sheet).registers[2][:24], s.run(sheet).count), (h, 4 * 36))
+
     def test_destination_may_be_a_factor(self):
         for d, x, y in ((0, 0, 0), (0, 0, 1), (1, 0, 1)):
             sheet = begin(1, 3) + put(0, 0, 5) + put(0, 1, 7) + put(1, 1, 11) + bytes([0x31, d, x, y, 0x32, d, d, y]) + END
@@ -98,12 +107,15 @@ class Refusals(unittest.TestCase):
     def test_each_command(self):
         start = begin(2, 3)
         cases = [
-            (10, 0, b'\x01'), (10, 0, b'\xff\x00'), (10, 10, start + b'\x34\x00\x01'), (10, 12, start + b'\x20\x00\x43'),
+            (10, 0, b'\x01'), (10, 0, b'\xff\x00'), (10, 10, start + b'\x35\x00\x01'), (10, 12, start + b'\x20\x00\x43'),
             (11, 0, b'\x10'), (11, 0, start[:9]), (11, 0, b'\x20'), (11, 10, start + b'\x21\x00\x00\x00'), (11, 10, start + b'\x10'),
             (12, 0, b'\x00'), (12, 0, b'\x20\x09'), (12, 0, b'\x00\xff'), (12, 10, start + start), (12, 10, start + begin(9, 0)),
             (13, 0, begin(6, 3)), (13, 10, start + b'\x20\x04'), (13, 10, start + put(4, 0, 0)), (13, 10, start + put(0, 6, 0)),
             (13, 10, start + b'\x30\x00\x00'), (13, 10, start + b'\x30\x00\x03'), (13, 10, start + b'\x30\x04\x01'),
+            (13, 10, start + b'\x34\x00\x00'), (13, 10, start + b'\x34\x00\x03'), (13, 10, start + b'\x34\x04\x01'),
+            (11, 10, start + b'\x34'), (11, 10, start + b'\x34\x00'), (12, 0, b'\x34\x00\x01'),
             (13, 10, start + scale(4, 0)), (13, 10, start + b'\x40\x04'), (13, 10, begin(0, 3) + b'\x30\x00\x01'),
+            (13, 10, begin(0, 3) + b'\x34\x00\x01'),
         ]
         for code in (0x31, 0x32):
             cases += [(13, 10, start + bytes([code, *operands])) for operands in ((4, 0, 0), (0, 4, 0), (0, 0, 4))]
@@ -112,6 +124,21 @@ class Refusals(unittest.TestCase):
         for number, place, sheet in cases:
             with self.subTest(sheet=sheet.hex()), refused(self, number, place):
                 s.check(sheet)
+
+    def test_15_no_inverse(self):
+        """After 13 at one command; lowest offset first; before 14."""
+        even = begin(2, 2)
+        for q in (0, 2, 2 ** 63, a.WORD - 2):
+            with refused(self, 15, 10):
+                s.check(begin(2, q) + b'\x34\x00\x01' + END)
+        for number, place, rest in (
+                (15, 10, '34 00 01 34 00 01 00'), (15, 13, '30 00 01 34 00 02 00'), (15, 10, '34 00 01 ff'),
+                (15, 10, '34 00 01 34 00'), (15, 10, '34 00 01 20 04 00'), (15, 10, '34 00 01'), (15, 10, '34 00 01 00 00'), (13, 10, '34 00 03 00'),
+                (13, 10, '34 04 01 34 00 01'), (13, 10, '20 04 34 00 01 00'), (11, 10, '34 00'), (14, 11, '00 34 00 01')):
+            with self.subTest(rest=rest), refused(self, number, place):
+                s.check(even + bytes.fromhex(rest))
+        with refused(self, 12, 0):
+            s.check(b'\x34\x00\x01' + even + END)
 
     def test_edges_in_range(self):
         for m in range(6):

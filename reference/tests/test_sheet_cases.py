@@ -30,18 +30,18 @@ class Cases(unittest.TestCase):
     def test_enough(self):
         self.assertGreaterEqual(len(set(self.sheets)), 500)
         self.assertGreaterEqual(len(self.valid), 200)
-        self.assertEqual(len(set(short())), 256 + 256 * 11)
+        self.assertEqual(len(set(short())), 256 + 256 * 12)
 
     def test_the_same_every_time(self):
         self.assertEqual(self.sheets, list(cases()))
 
     def test_every_refusal(self):
-        self.assertLessEqual(set(range(9, 15)), set(x for x in self.outcomes if isinstance(x, int)))
+        self.assertLessEqual(set(range(9, 16)), set(x for x in self.outcomes if isinstance(x, int)))
 
     def test_every_command_at_every_rank(self):
         for rank in range(s.MOST_RANK + 1):
             codes = set().union(*(codes for m, codes in self.valid if m == rank))
-            self.assertEqual(codes, set(s.OPERANDS) - ({s.LETTER} if rank == 0 else set()))
+            self.assertEqual(codes, set(s.OPERANDS) - ({s.LETTER, s.INVERSE} if rank == 0 else set()))
 
     def test_aliased_registers_and_parameters_at_every_rank(self):
         for rank in range(s.MOST_RANK + 1):
@@ -49,6 +49,20 @@ class Cases(unittest.TestCase):
                 begin = command(s.BEGIN, rank, q)
                 for operands in ((1, 1, 2), (2, 1, 2), (1, 1, 1)):
                     self.assertTrue(any(x.startswith(begin) and command(s.PRODUCT, *operands) in x for x in self.sheets))
+
+    def test_mirror_words_bring_home_at_every_rank(self):
+        """A sheet that compares a register before and after: what it prints last is that the two are equal."""
+        for rank in range(1, s.MOST_RANK + 1):
+            for q in (1, 3, WORD - 1):
+                begin = command(s.BEGIN, rank, q)
+                both = [x for x in self.sheets if x.startswith(begin) and x.endswith(command(s.EQUAL, 1, 2) + END)]
+                self.assertIn('Q 1', [s.printed(x).splitlines()[-2] for x in both])
+
+    def test_15_after_13_and_before_all_that_comes_later(self):
+        refused = [(sheet, x) for sheet, x in zip(self.sheets, self.outcomes) if isinstance(x, int)]
+        found = {(sheet[2], x) for sheet, x in refused if sheet[10:12] == command(s.UNIT, 0) and 0x34 in sheet[12:]}
+        self.assertLessEqual({(2, 11), (2, 13), (2, 14), (2, 15), (3, 10), (3, 11), (3, 12), (3, 13), (3, 14)}, found)
+        self.assertNotIn((3, 15), found)
 
     def test_operands_at_and_past_their_bounds(self):
         for rank in range(s.MOST_RANK + 1):

@@ -1,117 +1,177 @@
 """The knots in examples/: the reference prints what is stored, and it agrees with formulas and invariants known apart from it.
 
-The reduced Burau matrix of a braid on n strands gives the Alexander polynomial A of its closure: det(1 - matrix) is
-(1 + t + .. + t^(n - 1)) A(t), up to a sign and a power of t. The matrix S of a generator has S S = (1 - t) S + t, so that -S at
-t = q is a matrix for T_i. Each example is also run with other q, since at q = 3 alone the figure-eight's A is 1, the unknot's.
+`tools/alexander.py` says how the Alexander polynomial comes from what is printed. Each example is also run with other q, since at
+q = 3 alone the figure-eight's polynomial is 1, the unknot's.
 """
+import re
+import subprocess
+import sys
 import unittest
-from math import prod
 from pathlib import Path
 
-from reference.algebra import WORD, permutations
-from reference.permutations import length
+from reference.algebra import WORD, mirror
 from reference.sheet import printed
+from tools.alexander import (closure, combined, described, determinant, digits, identity, image, polynomial, shown, times,
+                             value)
 from tools.sheet_text import to_bytes
 
-EXAMPLES = Path(__file__).resolve().parents[2] / 'examples'
-INVERSE_OF_3 = 12297829382473034411
-PARAMETERS = 3, 5, 7, 0x9E37_79B9_7F4A_7C15, WORD - 5
-# document 01's order of the permutations of rank 1 and 2, as words
-WORDS = {1: ['', '1'], 2: ['', '1', '2', '12', '21', '121']}
+ROOT = Path(__file__).resolve().parents[2]
+EXAMPLES = ROOT / 'examples'
+PARAMETERS = 3, 5, 7, 101, 0x9E37_79B9_7F4A_7C15, WORD - 5
+
+# braids of knots, with the coefficients of their Alexander polynomials, from the tables of knots; the number of strands is one
+# more than the largest letter
+TREFOIL, FIGURE_EIGHT, FIVE_TWO = (1, 1, 1), (1, -2, 1, -2), (1, 1, 1, 2, -1, 2)
+KNOTS = {
+    (1,): (1,), (1, -2): (1,), TREFOIL: (1, -1, 1), FIGURE_EIGHT: (1, -3, 1), (1,) * 5: (1, -1, 1, -1, 1), FIVE_TWO: (2, -3, 2),
+    (1, 1, 2, -1, -3, 2, -3): (2, -5, 2), (-1, -1, -1, 2, -1, 2): (1, -3, 3, -3, 1), (-1, -1, 2, -1, 2, 2): (1, -3, 5, -3, 1),
+    (1, 1, 1, -2, -1, -1, -1, -2): (1, -2, 3, -2, 1), (1, 2, 3, 4, 5): (1,), (-1, 2, -3, 4, -5): (1,),
+}
+NAMES = {'trefoil': TREFOIL, 'figure_eight': FIGURE_EIGHT, 'five_two': FIVE_TWO}
 
 
-def coefficients(name, q):
-    """What the reference prints for an example with this q in the place of 3: the rank, and the coefficients by their index."""
-    text, inverse = (EXAMPLES / f'{name}.txt').read_text(), pow(q, -1, WORD)
-    for old, new in (('begin 1 3', f'begin 1 {q}'), ('begin 2 3', f'begin 2 {q}'), (INVERSE_OF_3 - 1, inverse - 1),
-                     (INVERSE_OF_3, inverse)):
-        text = text.replace(str(old), str(new))
-    head, register, *lines, count = printed(to_bytes(text)).splitlines()
-    assert (head.split()[2], register, count[0]) == (str(q), 'R 0', 'N')
-    return int(head.split()[1]), dict(tuple(map(int, line.split())) for line in lines)
+def text_of(word, q):
+    """The text of a sheet that shows a braid's element."""
+    return f'begin {max(map(abs, word))} {q}\nunit 0\nletters 0 {" ".join(map(str, word))}\nshow 0\nend\n'
 
 
-# ---- square matrices modulo 2^64
-
-def identity(d):
-    return [[int(i == j) for j in range(d)] for i in range(d)]
-
-
-def times(x, y):
-    return [[sum(a * b for a, b in zip(row, column)) % WORD for column in zip(*y)] for row in x]
+def at(coefficients, q):
+    """The value of a polynomial."""
+    return sum(c * q ** k for k, c in enumerate(coefficients))
 
 
-def combined(a, x, b, y):
-    """a x + b y."""
-    return [[(a * s + b * t) % WORD for s, t in zip(*rows)] for rows in zip(x, y)]
-
-
-def determinant(x):
-    return sum((-1) ** length(w) * prod(row[p - 1] for row, p in zip(x, w)) for w in permutations(len(x) - 1)) % WORD
-
-
-def image(m, q, i):
-    """The matrix of T_i at rank m: -S, where S is the unit matrix but for row i, with t, -t and 1 around the diagonal."""
-    s = identity(m)
-    for column, entry in ((i - 1, q), (i, -q), (i + 1, 1)):
-        if 1 <= column <= m:
-            s[i - 1][column - 1] = entry
-    return [[-x % WORD for x in row] for row in s]
-
-
-def matrix(m, q, element):
-    """The matrix of an element."""
-    total = combined(0, identity(m), 0, identity(m))
-    for index, value in element.items():
-        one = identity(m)
-        for letter in WORDS[m][index]:
-            one = times(one, image(m, q, int(letter)))
-        total = combined(1, total, value, one)
-    return total
+def kinds(word):
+    """The numbers of plain and of inverse letters."""
+    return sum(i > 0 for i in word), sum(i < 0 for i in word)
 
 
 class Matrices(unittest.TestCase):
     def test_quadratic_relation(self):
         for q in PARAMETERS:
-            for m, i in ((1, 1), (2, 1), (2, 2)):
+            for m, i in ((m, i) for m in range(1, 6) for i in range(1, m + 1)):
                 t = image(m, q, i)
                 self.assertEqual(times(t, t), combined(q - 1, t, q, identity(m)))
 
     def test_braid_relation(self):
         for q in PARAMETERS:
-            t, u = image(2, q, 1), image(2, q, 2)
-            self.assertEqual(times(times(t, u), t), times(times(u, t), u))
-            self.assertNotEqual(times(t, u), times(u, t))
+            for m, i in ((m, i) for m in range(2, 6) for i in range(1, m)):
+                t, u = image(m, q, i), image(m, q, i + 1)
+                self.assertEqual(times(times(t, u), t), times(times(u, t), u))
+                self.assertNotEqual(times(t, u), times(u, t))
+
+    def test_distant_generators_commute(self):
+        for m, i, j in ((m, i, j) for m in range(3, 6) for i in range(1, m) for j in range(i + 2, m + 1)):
+            self.assertEqual(times(image(m, 3, i), image(m, 3, j)), times(image(m, 3, j), image(m, 3, i)))
+
+    def test_determinant(self):
+        self.assertEqual([determinant(x) for x in ([], [[5]], [[1, 2], [3, 4]], identity(4))], [1, 5, WORD - 2, 1])
+        self.assertEqual(determinant([[2, 0, 1], [1, 3, 2], [0, 1, 4]]), 21)
+
+
+class Polynomials(unittest.TestCase):
+    def test_modulo_2_to_64(self):
+        """det(1 - B) is (1 + q + .. + q^m) A(q) up to a sign and a power of q: for each knot at each q, small or not."""
+        for word, coefficients in KNOTS.items():
+            for q in PARAMETERS:
+                m, _, element = shown(printed(to_bytes(text_of(word, q))))
+                found = closure(m, q, element, len(word))
+                units = {sign * pow(q, k, WORD) for sign in (1, -1) for k in range(-6, 7)}
+                wanted = at([1] * (m + 1), q) * at(coefficients, q)
+                self.assertIn(found, {unit * wanted % WORD for unit in units}, (word, q))
+                self.assertNotIn(found, {unit * (wanted + 2) % WORD for unit in units}, (word, q))
+
+    def test_whole_values(self):
+        for word, coefficients in KNOTS.items():
+            for q in (3, 11, 41):
+                found = shown(printed(to_bytes(text_of(word, q))))
+                self.assertEqual(value(*found, *kinds(word)), abs(at(coefficients, q)), (word, q))
+
+    def test_coefficients(self):
+        """At q = 41, above twice each coefficient, the digits are the coefficients; a mirror image has the same."""
+        for word, coefficients in KNOTS.items():
+            for one in (word, mirror(word)):
+                text = printed(to_bytes(text_of(one, 41)))
+                self.assertEqual(described(text, *kinds(one)).splitlines()[1].split(': ')[1], polynomial(coefficients))
+
+    def test_plain_letters_at_even_q(self):
+        text = printed(to_bytes(text_of(TREFOIL, 10)))
+        read = 'polynomial, if each coefficient is from -4 to 5: t^2 - t + 1'
+        self.assertEqual(described(text, 3, 0), f'value at t = 10: 91\n{read}\n')
+
+    def test_as_it_is_written(self):
+        for coefficients, text in (((), '0'), ((0, 0), '0'), ((1,), '1'), ((-1,), '-1'), ((0, 1), 't'), ((2, -1), '-t + 2'),
+                                   ((1, -3, 1), 't^2 - 3 t + 1'), ((-2, 0, 0, 5), '5 t^3 - 2')):
+            self.assertEqual(polynomial(coefficients), text)
+
+    def test_digits(self):
+        for q in (2, 3, 10, 41):
+            for whole in range(2000):
+                found = list(digits(q, whole))
+                self.assertEqual(at(found, q), whole)
+                self.assertTrue(all(-((q - 1) // 2) <= digit <= q // 2 for digit in found))
+
+    def test_refused(self):
+        text = printed(to_bytes(text_of(FIVE_TWO, 101)))
+        for given, plain, inverse, wrong in (
+                ('', 0, 0, 'no register is shown'), ('E 9 0\n', 0, 0, 'no register is shown'),
+                ('H 1 3\nN 0\n', 0, 0, 'no register is shown'),
+                (text, 4, 1, 'the coefficients are not those of a braid with 4 plain and 1 inverse letters'),
+                (text, 7, 2, 'q = 101 is below 2, or too large for 9 letters of rank 2'),
+                ('H 1 1\nR 0\n0 1\nN 0\n', 0, 0, 'q = 1 is below 2, or too large for 0 letters of rank 1')):
+            with self.assertRaises(ValueError) as caught:
+                described(given, plain, inverse)
+            self.assertEqual(str(caught.exception), wrong)
 
 
 class Examples(unittest.TestCase):
     def test_stored(self):
         names = {path.stem for path in EXAMPLES.glob('*.txt')}
-        self.assertEqual(names, {'trefoil', 'figure_eight'})
+        self.assertEqual(names, set(NAMES))
         for name in names:
             text = (EXAMPLES / f'{name}.txt').read_text()
             self.assertEqual(printed(to_bytes(text)), (EXAMPLES / f'{name}.expected').read_text())
 
-    def alexander(self, m, q, element, crossings, value):
-        """The element of a braid with so many crossings gives this value at t = q, up to a sign and a power of t."""
-        burau = combined((-1) ** crossings, matrix(m, q, element), 0, identity(m))
-        found = determinant(combined(1, identity(m), -1, burau))
-        strands = sum(q ** k for k in range(m + 1))
-        units = {sign * pow(q, k, WORD) for sign in (1, -1) for k in range(-4, 5)}
-        self.assertIn(found, {unit * strands * value % WORD for unit in units})
+    def test_are_the_braids_of_their_knots(self):
+        for name, word in NAMES.items():
+            text = (EXAMPLES / f'{name}.txt').read_text()
+            q = re.search(r'^begin \d (\d+)', text, re.MULTILINE)[1]
+            self.assertEqual(to_bytes(text), to_bytes(text_of(word, q)))
+
+    def test_polynomials_of_what_is_stored(self):
+        for name, word in NAMES.items():
+            m, q, element = shown((EXAMPLES / f'{name}.expected').read_text())
+            self.assertEqual(value(m, q, element, *kinds(word)), abs(at(KNOTS[word], q)))
 
     def test_trefoil(self):
         for q in PARAMETERS:
-            m, element = coefficients('trefoil', q)
+            m, _, element = shown(printed(to_bytes(text_of(TREFOIL, q))))
             self.assertEqual((m, element), (1, {0: q * (q - 1) % WORD, 1: (q ** 2 - q + 1) % WORD}))
-            self.alexander(m, q, element, 3, q ** 2 - q + 1)
 
     def test_figure_eight(self):
-        self.assertEqual(3 * INVERSE_OF_3 % WORD, 1)
         for q in PARAMETERS:
             a = pow(q, -1, WORD)
             b = a - 1
             known = {0: q * b * b, 1: (q - 1) * b * b, 2: q * a * b, 3: (q - 1) * a * b, 4: q * a * a}
-            m, element = coefficients('figure_eight', q)
+            m, _, element = shown(printed(to_bytes(text_of(FIGURE_EIGHT, q))))
             self.assertEqual((m, element), (2, {index: x % WORD for index, x in known.items()}))
-            self.alexander(m, q, element, 4, q ** 2 - 3 * q + 1)
+
+
+class CommandLine(unittest.TestCase):
+    def run_tool(self, *arguments, given=''):
+        tool = [sys.executable, str(ROOT / 'tools' / 'alexander.py')]
+        done = subprocess.run([*tool, *arguments], input=given, capture_output=True, text=True)
+        return done.returncode, done.stdout, done.stderr
+
+    def test_file_and_standard_input(self):
+        path = EXAMPLES / 'five_two.expected'
+        due = 'value at t = 101: 20101\npolynomial, if each coefficient is from -50 to 50: 2 t^2 - 3 t + 2\n'
+        self.assertEqual(self.run_tool('5', '1', str(path)), (0, due, ''))
+        self.assertEqual(self.run_tool('5', '1', given=path.read_text()), (0, due, ''))
+
+    def test_wrong(self):
+        self.assertEqual(self.run_tool('0', '0', given='E 9 0\n'), (1, '', 'no register is shown\n'))
+        for arguments in ((), ('1',), ('1', 'x'), ('1', '2', '3', '4'), ('1', '2', 'no such file')):
+            status, out, error = self.run_tool(*arguments)
+            self.assertEqual((status, out), (1, ''))
+            self.assertNotEqual(error, '')
+            self.assertNotIn('Traceback', error)

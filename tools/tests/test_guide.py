@@ -6,9 +6,10 @@ import re
 import unittest
 from pathlib import Path
 
-from reference.algebra import WORD, letter_count, permutations, product_count, size
+from reference.algebra import letter_count, permutations, product_count, size
 from reference.permutations import standard_word, tower
 from reference.sheet import MOST_BYTES, OPERANDS, check, printed
+from tools.alexander import described, image, shown, value
 from tools.sheet_text import CODES, FORMS, NAMES, refusal, to_bytes
 
 ROOT = Path(__file__).resolve().parents[2]
@@ -52,7 +53,7 @@ class Blocks(unittest.TestCase):
         run = [check(to_bytes(example['sheet'])) for example in examples() if 'explain' not in example]
         self.assertEqual({command.code for commands in run for command in commands}, set(OPERANDS))
         refused = {example['output'].split()[1] for example in examples() if 'explain' in example}
-        self.assertEqual(refused, {'9', '10', '11', '12', '13', '14'})
+        self.assertEqual(refused, {'9', '10', '11', '12', '13', '14', '15'})
 
     def test_knots(self):
         sheets = [to_bytes(example['sheet']) for example in examples()]
@@ -65,9 +66,14 @@ class Tables(unittest.TestCase):
         for name, code in CODES.items():
             self.assertIn(f'\n| `{FORMS[name]}` | `{code:02x}` | {1 + sum(OPERANDS[code].values())} | ', GUIDE)
 
+    def test_refusals(self):
+        """The numbers in the order of the checks, and a section for each in its own order."""
+        self.assertEqual(re.findall(r'^\| `(\d+)` \|', GUIDE, re.MULTILINE), ['9', '10', '11', '12', '13', '15', '14'])
+        self.assertEqual(re.findall(r'^### (\d+): ', GUIDE, re.MULTILINE), [str(number) for number in range(9, 16)])
+
     def test_numbers(self):
-        """Every row that starts with a number: the inverses, the indexes and the counts."""
-        rows = [row(q, pow(q, -1, WORD)) for q in (3, 5, 7, 9, 11)]
+        """Every row that starts with a number: the indexes and the counts."""
+        rows = []
         for m, index in [(1, 0), (1, 1), *((2, index) for index in range(6)), (3, 17), (5, 500)]:
             w = permutations(m)[index]
             word = ''.join(f's{i}' for i in standard_word(tower(w))) or 'none'
@@ -78,25 +84,30 @@ class Tables(unittest.TestCase):
         self.assertEqual([line for line in GUIDE.splitlines() if re.match(r'\| \d', line)], rows)
 
     def test_bookings(self):
-        """The tables for the two sheets of the figure-eight, made from their commands."""
-        each = {'letter': letter_count(2), 'product': product_count(2, 2), 'sum': size(2), 'scale': size(2)}
-        rows = []
-        for example in examples():
-            if '# S2' in example['sheet']:
-                names = [NAMES[command.code] for command in check(to_bytes(example['sheet']))]
-                times = {name: names.count(name) for name in each if name in names}
-                rows += [row(f'`{name}`', n, each[name], n * each[name]) for name, n in times.items()]
-                rows.append(f'| the sheet | | | {sum(n * each[name] for name, n in times.items())} |')
+        """The table for the sheet of the figure-eight, made from its commands."""
+        each = {'letter': letter_count(2), 'inverse': letter_count(2)}
+        names = [NAMES[command.code] for command in check(to_bytes((ROOT / 'examples' / 'figure_eight.txt').read_text()))]
+        rows = [row(f'`{name}`', names.count(name), count, names.count(name) * count) for name, count in each.items()]
+        rows.append(f'| the sheet | | | {sum(names.count(name) * count for name, count in each.items())} |')
         self.assertEqual([line for line in GUIDE.splitlines() if re.match(r'\| (`\w+` \| \d|the sheet)', line)], rows)
 
     def test_numbers_in_sentences(self):
         sentences = ' '.join(GUIDE.split())
-
-        def cheaper(m):
-            return f'{2 * size(m) + 2 * size(m) + letter_count(m):,}'
-
-        self.assertIn(f'{cheaper(2)} at rank 2 in place of {product_count(2, 2)}.', sentences)
-        self.assertIn(f'At rank 5 it is {cheaper(5)} in place of {product_count(5, 5):,}.', sentences)
+        self.assertIn(f'With q = 3 the number a is {pow(3, -1, 2 ** 64)}.', sentences)
         rest = to_bytes('begin 5 3\nunit 0\nshow 0\nend')
         letters = (MOST_BYTES - len(rest)) // len(to_bytes('letter 0 1'))
-        self.assertIn(f'so {letters:,} letters fit beside `begin`, `unit`, `show` and `end`', sentences)
+        self.assertIn(f'so {letters:,} letters of either kind fit beside `begin`, `unit`, `show` and `end`', sentences)
+
+    def test_alexander_polynomials(self):
+        """What the tool prints for the knot 5_2, its values for the figure-eight, and the trefoil by hand."""
+        sentences = ' '.join(GUIDE.split())
+        said = described((ROOT / 'examples' / 'five_two.expected').read_text(), 5, 1)
+        self.assertIn('\n\n' + ''.join(f'    {line}\n' for line in said.splitlines()) + '\n', GUIDE)
+        eight = 'begin 2 {}\nunit 0\nletters 0 1 -2 1 -2\nshow 0\nend'
+        small, large = (value(*shown(printed(to_bytes(eight.format(q)))), 2, 2) for q in (3, 101))
+        self.assertIn(f'At q = 3 the figure-eight has the value {small}, as the ring without a knot has', sentences)
+        self.assertIn(f'at q = 101 it has {large}, and the polynomial is t^2 - 3 t + 1.', sentences)
+        [[t]], (_, q, element) = image(1, 3, 1), shown((ROOT / 'examples' / 'trefoil.expected').read_text())
+        total = element[0] + element[1] * t
+        self.assertIn(f'{element[0]} + {element[1]} T_1 gives {element[0]} + {element[1]} · {t} = {total}', sentences)
+        self.assertIn(f'is {1 + total}, and {1 + total} divided by 1 + {q} is {(1 + total) // (1 + q)},', sentences)

@@ -18,6 +18,8 @@ LINES = [
     ('unit 1', '20 01'),
     ('set 1 515 1027', '21 01 03 02 03 04 00 00 00 00 00 00'),
     ('letter 2 3', '30 02 03'),
+    ('set 2 1 1', '21 02 01 00 01 00 00 00 00 00 00 00'),
+    ('inverse 2 3', '34 02 03'),
     ('product 1 2 3', '31 01 02 03'),
     ('sum 1 2 3', '32 01 02 03'),
     ('scale 1 72623859790382856', '33 01 08 07 06 05 04 03 02 01'),
@@ -25,10 +27,13 @@ LINES = [
     ('pair 1 2', '41 01 02'),
     ('equal 1 2', '42 01 02'),
     ('letters 1 2 3 2', '30 01 02 30 01 03 30 01 02'),
+    ('letters 2 1 -2 1 -2', '30 02 01 34 02 02 30 02 01 34 02 02'),
+    ('letters 3 -1 -255', '34 03 01 34 03 ff'),
     ('end', '00'),
 ]
 
 START = '10 02 03 00 00 00 00 00 00 00 '
+EVEN = '10 02 02 01 00 00 00 00 00 00 '
 REFUSALS = [
     ('', '9 at 0: the sheet has 0 bytes, and a sheet has 1 to 4096'),
     ('00' * 4097, '9 at 0: the sheet has 4097 bytes, and a sheet has 1 to 4096'),
@@ -48,12 +53,17 @@ REFUSALS = [
      '13 at 10: operand out of range: "letter 0 3" has the generator 3, and rank 2 has generators 1 to 2'),
     ('10 00 03 00 00 00 00 00 00 00 30 00 01',
      '13 at 10: operand out of range: "letter 0 1" has the generator 1, and rank 0 has no generators'),
+    (START + '34 00 03 00',
+     '13 at 10: operand out of range: "inverse 0 3" has the generator 3, and rank 2 has generators 1 to 2'),
+    (START + '34 00', '11 at 10: operands cut off: "inverse R I" takes 3 bytes, and the sheet has 2 left'),
+    (EVEN + '20 00 34 00 02 00', '15 at 12: no inverse: "inverse 0 2" needs an inverse of q, and q is 258, which is even'),
     (START + '00 20', '14 at 11: a byte after the end command: the byte is 0x20'),
     (START + '20 00', '14 at 12: no end command: the sheet stops without one'),
 ]
 
-NAMES = 'expected one of begin, unit, set, letter, product, sum, scale, show, pair, equal, end, letters, bytes'
+NAMES = 'expected one of begin, unit, set, letter, inverse, product, sum, scale, show, pair, equal, end, letters, bytes'
 WORDS = 'expected a number from -9223372036854775808 to 18446744073709551615'
+LETTERS = 'I: expected a number from -255 to 255'
 INDEXES = 'expected a number from 0 to 65535 or a shortest word such as s1s2'
 BAD_LINES = [
     ('multiply 0 1 2', f'{NAMES}, found "multiply"'),
@@ -66,7 +76,17 @@ BAD_LINES = [
     ('unit 256', 'R: expected a number from 0 to 255, found "256"'),
     ('unit -1', 'R: expected a number from 0 to 255, found "-1"'),
     ('unit 1_0', 'R: expected a number from 0 to 255, found "1_0"'),
-    ('letters 0 1 x', 'I: expected a number from 0 to 255, found "x"'),
+    ('letter 0 -1', 'I: expected a number from 0 to 255, found "-1"'),
+    ('inverse 0 -1', 'I: expected a number from 0 to 255, found "-1"'),
+    ('inverse 0', 'expected "inverse R I", found "inverse 0"'),
+    ('letters 0 1 x', f'{LETTERS}, found "x"'),
+    ('letters 0 1 -', f'{LETTERS}, found "-"'),
+    ('letters 0 1 --1', f'{LETTERS}, found "--1"'),
+    ('letters 0 1 +1', f'{LETTERS}, found "+1"'),
+    ('letters 0 1 -256', f'{LETTERS}, found "-256"'),
+    ('letters 0 256', f'{LETTERS}, found "256"'),
+    ('letters -1 1', 'R: expected a number from 0 to 255, found "-1"'),
+    ('letters 256 -1', 'R: expected a number from 0 to 255, found "256"'),
     ('bytes 0x100', 'BYTE: expected a number from 0 to 255, found "0x100"'),
     ('scale 0 18446744073709551616', f'V: {WORDS}, found "18446744073709551616"'),
     ('begin 2 -9223372036854775809', f'Q: {WORDS}, found "-9223372036854775809"'),
@@ -127,6 +147,15 @@ class ToText(unittest.TestCase):
         text = 'begin 2 3\nletters 0 1 2\nletter 1 2\nletters 0 2 1\nunit 0\nletter 0 1\nend\n'
         self.assertEqual(to_text(to_bytes(text)), text)
 
+    def test_rows_of_both_kinds(self):
+        """Every letter by itself too, in range or not: -0 is the inverse command of 0."""
+        text = 'begin 2 3\nletters 0 1 -2 1 -2\ninverse 1 2\nletters 0 -2 -0 0\nunit 0\ninverse 0 1\nend\n'
+        self.assertEqual(to_text(to_bytes(text)), f'{text}# {refusal(to_bytes(text))}\n')
+        self.assertEqual(to_bytes('letters 0 -0x2 -0'), bytes([0x34, 0, 2, 0x34, 0, 0]))
+        for code, i in ((code, i) for code in (0x30, 0x34) for i in range(256)):
+            for row in (bytes([code, 1, i]), bytes([code, 1, i, 0x34, 1, 2])):
+                self.assertEqual(to_bytes(to_text(row)), row)
+
     def test_damaged(self):
         for rest, why in (
                 ('bytes 0x50 0x00 0x01 0x20 0x00', '10 at 12: unknown command: the byte is 0x50'),
@@ -166,7 +195,7 @@ class InWords(unittest.TestCase):
 
     def test_summary(self):
         self.assertEqual(summary(EXAMPLE), 'passes its check: rank 1, q 3, commands 6, ring operations 6')
-        sheet = to_bytes('begin 2 -1\nletters 0 1 2 1\nproduct 0 0 0\nsum 1 0 0\nscale 1 5\nunit 3\nset 3 5 5\n'
+        sheet = to_bytes('begin 2 -1\nletters 0 1 -2 1\nproduct 0 0 0\nsum 1 0 0\nscale 1 5\nunit 3\nset 3 5 5\n'
                          'pair 0 1\nequal 0 1\nshow 0\nend')
         self.assertEqual(summary(sheet), 'passes its check: rank 2, q 18446744073709551615, commands 13, '
                                          f'ring operations {3 * 9 + 118 + 6 + 6}')

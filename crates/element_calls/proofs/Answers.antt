@@ -3,6 +3,7 @@ use mathlib.Core.Path.{_≡_, ap}
 use mathlib.Core.List.{List, _++_}
 use Prim.Native.Nat.{ℕ, suc, _+_, _*_, _/_}
 use lib.ListN.{length, drop, replicate}
+use lib.IntN.{ℤ}
 use Rattle.ring.specs.Modular.{words}
 use Rattle.lists.specs.Numbers.{factorial}
 use Rattle.refusals.specs.Refusals.{_then_}
@@ -10,10 +11,11 @@ use Rattle.refusals.specs.declared.Verdict.{Verdict}
 use Rattle.algebra.specs.Element.{plus, scale}
 use Rattle.algebra.specs.Product.{act, times}
 use Rattle.algebra.specs.Nested.{operations, nested}
+use Rattle.signed_words.specs.Words.{signedAct}
 use Rattle.ranks.specs.Ranks.{needed}
 use Rattle.element_calls.specs.declared.Parameters.{Parameters}
-use Rattle.element_calls.specs.Coefficients.{ring, parametersOf}
-use Rattle.element_calls.specs.Calls.{rankVerdict, sizeVerdict, scratchVerdict, wordVerdict, sumCall, scaleCall, actWordCall, productCall}
+use Rattle.element_calls.specs.Coefficients.{ring, parametersOf, inverseParameters}
+use Rattle.element_calls.specs.Calls.{rankVerdict, sizeVerdict, scratchVerdict, wordVerdict, signedVerdict, sumCall, scaleCall, actWordCall, actSignedWordCall, productCall}
 use Rattle.element_calls.specs.Claims.{Taken}
 use Rattle.element_calls.proofs.Calls.{write-verdict, write-lent, write-count}
 
@@ -67,6 +69,22 @@ module _ (m q : ℕ) (x h : List ℕ) where
   pub act-counted : Taken (actWordCall m q x h .answer) → actWordCall m q x h .answer .count ≡ length x * (3 * factorial (suc m) / 2)
   unfolding actWordCall
   act-counted t = write-count actChecks _ _ _ t
+
+module _ (m q : ℕ) (x : List ℤ) (h : List ℕ) where
+  pub signed-verdict : actSignedWordCall m q x h .answer .verdict ≡ signedVerdict m (length h) q x
+  unfolding actSignedWordCall
+  signed-verdict = write-verdict (signedVerdict m (length h) q x) _ _ _
+
+  pub signed-lent : Taken (actSignedWordCall m q x h .answer)
+      → let p = parametersOf q in
+      let p' = inverseParameters q in
+      actSignedWordCall m q x h .lent ≡ signedAct ℕ (ring p) (p .q) (p .r) (p' .q) (p' .r) m x h
+  unfolding actSignedWordCall
+  signed-lent t = write-lent (signedVerdict m (length h) q x) _ _ _ t
+
+  pub signed-counted : Taken (actSignedWordCall m q x h .answer) → actSignedWordCall m q x h .answer .count ≡ length x * (3 * factorial (suc m) / 2)
+  unfolding actSignedWordCall
+  signed-counted t = write-count (signedVerdict m (length h) q x) _ _ _ t
 
 module _ (m q : ℕ) (h g result scratch : List ℕ) where
   abbrev productChecks : Verdict

@@ -1,12 +1,15 @@
--- the calls
+-- letters
+pub mod LetterTests
+pub mod SignedBytes
+-- the checks
+pub mod WordChecks
 pub mod Verdicts
+pub mod InverseVerdicts
+pub mod SignedVerdicts
+-- the calls
 pub mod Calls
 pub mod Refusals
 pub mod Answers
 pub mod Accepts
--- letters
-pub mod LetterTests
-pub mod SignedBytes
-pub mod InverseVerdicts
 -- demand 3
 pub mod Demand3

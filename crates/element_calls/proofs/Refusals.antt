@@ -1,21 +1,21 @@
--- A call that is refused counts 0 and leaves every lent slice as it was, and a place is at most 4,096: the record `Refusals`. Rests on refusals'
--- Verdicts and Ended.
+-- A call that is refused counts 0 and leaves every lent slice as it was, and a place is at most 4,096: the record `Refusals`. Rests on Verdicts,
+-- SignedVerdicts, and refusals' Verdicts and Ended.
 use mathlib.Core.Path.{refl}
 use mathlib.Core.Bool.{not}
-use mathlib.Core.List.{List}
 use Prim.Native.Nat.{ℕ}
 use native.Mathlib.Omega.{arith}
 use lib.ListN.{length}
 use Rattle.lists.specs.Lists.{same, less}
-use Rattle.lists.proofs.Test.{less-true, less-false}
-use Rattle.refusals.specs.Refusals.{_then_, unless, accepted, answerReport, Keeps}
+use Rattle.refusals.specs.Refusals.{_then_, accepted, answerReport, Keeps}
 use Rattle.refusals.specs.declared.Refusal.the-variants as R
 use Rattle.refusals.specs.declared.Verdict.{Verdict}
-use Rattle.refusals.proofs.Verdicts.{accepts-unless, Near, near-then, near-unless}
+use Rattle.refusals.proofs.Verdicts.{Near, near-then, near-unless}
 use Rattle.refusals.proofs.Ended.{ended-keeps}
 use Rattle.ranks.specs.Ranks.{size, scratchSize}
-use Rattle.element_calls.specs.Calls.{rankVerdict, sizeVerdict, scratchVerdict, firstBadLetter, wordVerdict, write, sumCall, scaleCall, actWordCall, productCall}
+use Rattle.element_calls.specs.Calls.{rankVerdict, sizeVerdict, scratchVerdict, wordVerdict, write, sumCall, scaleCall, actWordCall, actSignedWordCall, productCall}
 use Rattle.element_calls.specs.Claims.{Refusals}
+use Rattle.element_calls.proofs.Verdicts.{word-near}
+use Rattle.element_calls.proofs.SignedVerdicts.{signed-near}
 
 rank-near : (m : ℕ) → Near (rankVerdict m)
 unfolding rankVerdict
@@ -28,19 +28,6 @@ size-near m n = near-unless (not (same n (size m))) R.Size (λ t. omega arith)
 scratch-near : (m n : ℕ) → Near (scratchVerdict m n)
 unfolding scratchVerdict
 scratch-near m n = near-unless (less n (scratchSize m)) R.Scratch (λ t. omega arith)
-
-word-near : (m : ℕ) (x : List ℕ) → Near (wordVerdict m x)
-unfolding wordVerdict
-word-near m x =
-    near-then (unless (less 4096 n) R.Word) (unless (less bad n) (R.Letter bad)) (near-unless (less 4096 n) R.Word (λ t. omega arith)) (λ e.
-    let few = less-false 4096 n (accepts-unless (less 4096 n) R.Word e) in
-    near-unless (less bad n) (R.Letter bad) (λ t. omega (arith, less-true bad n t, few)))
-  where
-    n : ℕ
-    n = length x
-
-    bad : ℕ
-    bad = firstBadLetter m x
 
 -- one check more
 more : (a b : Verdict) → Near a → Near b → Near (a then b)
@@ -59,12 +46,13 @@ write-keeps : {A : Type 0} (v : Verdict) (old new : A) (n : ℕ) → Near v → 
 write-keeps v old new n h = ended-keeps answerReport v _ (accepted n) n old new (λ why. refl) refl h
 
 pub refusals : Refusals
-unfolding sumCall scaleCall actWordCall productCall
+unfolding sumCall scaleCall actWordCall actSignedWordCall productCall
 refusals = record {
   sum = λ m h g result. write-keeps _ _ _ _ (three-near m (length h) (length g) (length result));
   scale = λ m c h result. write-keeps _ _ _ _ (two-near m (length h) (length result));
   act-word = λ m q x h.
       write-keeps _ _ _ _ (more (rankVerdict m then sizeVerdict m (length h)) (wordVerdict m x) (one-near m (length h)) (word-near m x));
+  act-signed-word = λ m q x h. write-keeps _ _ _ _ (signed-near m (length h) q x (one-near m (length h)));
   product = λ m q h g result scratch.
       let three = rankVerdict m then sizeVerdict m (length h) then sizeVerdict m (length g) then sizeVerdict m (length result) in
       write-keeps _ _ _ _

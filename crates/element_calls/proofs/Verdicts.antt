@@ -1,25 +1,24 @@
--- What acceptance says, and what is accepted: a rank up to 6, an element's slice, enough scratch, and a word. Rests on ranks' Sizes, lists'
--- Test, First and All, and refusals' Verdicts.
+-- What acceptance says, and what is accepted: a rank up to 6, an element's slice, enough scratch, and a word. Rests on WordChecks, ranks' Sizes, lists'
+-- Test and All, and refusals' Verdicts.
 use mathlib.Core.Path.{_≡_, refl, sym, _∙_}
-use mathlib.Core.Bool.{Bool, false, not, _||_}
+use mathlib.Core.Bool.{Bool, not, _||_}
 use mathlib.Core.List.{List}
 use Prim.Native.Nat.{ℕ, suc, _≤_}
 use native.Mathlib.Omega.{arith}
 use lib.ListN.{length, getD}
-use Rattle.lists.specs.Lists.{same, less, first}
+use Rattle.lists.specs.Lists.{same, less}
 use Rattle.lists.specs.Numbers.{factorial}
-use Rattle.lists.proofs.Test.{same-yes, same-no, less-no, same-true, same-false, less-false, not-false, or-first, or-next}
+use Rattle.lists.proofs.Test.{same-yes, less-no, same-true, less-false, not-false}
 use Rattle.lists.proofs.All.{all-getD, all-index}
-use Rattle.lists.proofs.First.{passed, first-past}
-use Rattle.refusals.specs.Refusals.{_then_, unless}
+use Rattle.refusals.specs.Refusals.{_then_}
 use Rattle.refusals.specs.declared.Refusal.the-variants as R
-use Rattle.refusals.specs.declared.Verdict.{Verdict}
 use Rattle.refusals.specs.declared.Verdict.the-variants.{Accepted}
-use Rattle.refusals.proofs.Verdicts.{accepts-first, accepts-next, accepts-unless}
+use Rattle.refusals.proofs.Verdicts.{accepts-first, accepts-next, accepts-unless, Near}
 use Rattle.perms.specs.Permutation.{Letter, Word}
 use Rattle.ranks.specs.Ranks.{size, needed, scratchSize}
 use Rattle.ranks.proofs.Sizes.{size-is, scratch-size-is}
 use Rattle.element_calls.specs.Calls.{rankVerdict, sizeVerdict, scratchVerdict, firstBadLetter, wordVerdict}
+use Rattle.element_calls.proofs.WordChecks.{letter-good, good-letter, searched-few, searched-good, searched-taken, searched-near}
 
 -- ---- the rank, an element, the scratch
 
@@ -78,43 +77,18 @@ product-accepted m a b c n e =
 -- ---- a word
 
 -- the test that a letter fails
-badLetter : ℕ → List ℕ → ℕ → Bool
+abbrev badLetter : ℕ → List ℕ → ℕ → Bool
 badLetter m x i = same (getD x i 0) 0 || less m (getD x i 0)
 
-letter-good : (m : ℕ) (x : List ℕ) (i : ℕ) → badLetter m x i ≡ false → Letter m (getD x i 0)
-unfolding badLetter
-letter-good m x i e =
-    let a = same (getD x i 0) 0 in
-    let b = less m (getD x i 0) in
-    record { low = omega (arith, same-false (getD x i 0) 0 (or-first a b e)); high = less-false m (getD x i 0) (or-next a b e) }
-
-good-letter : (m : ℕ) (x : List ℕ) (i : ℕ) → Letter m (getD x i 0) → badLetter m x i ≡ false
-unfolding badLetter
-good-letter m x i l = rw (same-no {x = getD x i 0} {a = 0} (omega (arith, l .low)), less-no {x = m} {a = getD x i 0} (l .high)) refl
-
 pub word-accepted : (m : ℕ) (x : List ℕ) → wordVerdict m x ≡ Accepted → Word m x × (length x ≤ 4096)
-unfolding wordVerdict firstBadLetter badLetter
+unfolding wordVerdict firstBadLetter
 word-accepted m x e =
-    (all-index (Letter m) x 0 (λ i h. letter-good m x i (passed (badLetter m x) 0 (length x) i (omega arith) (omega (arith, all)))), few)
-  where
-    bad : ℕ
-    bad = first (badLetter m x) 0 (length x)
-
-    size : Verdict
-    size = unless (less 4096 (length x)) R.Word
-
-    rest : Verdict
-    rest = unless (less bad (length x)) (R.Letter bad)
-
-    few : length x ≤ 4096
-    few = less-false 4096 (length x) (accepts-unless (less 4096 (length x)) R.Word (accepts-first size rest e))
-
-    all : length x ≤ bad
-    all = less-false bad (length x) (accepts-unless (less bad (length x)) (R.Letter bad) (accepts-next size rest e))
+    (all-index (Letter m) x 0 (λ i h. letter-good m (getD x i 0) (searched-good (badLetter m x) (length x) e i h)), searched-few (badLetter m x) (length x) e)
 
 pub word-taken : (m : ℕ) (x : List ℕ) → Word m x → length x ≤ 4096 → wordVerdict m x ≡ Accepted
-unfolding wordVerdict firstBadLetter badLetter
-word-taken m x w h = rw (less-no h, less-no {x = first (badLetter m x) 0 (length x)} {a = length x} none) refl
-  where
-    none : length x ≤ first (badLetter m x) 0 (length x)
-    none = omega (arith, first-past (badLetter m x) 0 (length x) (λ i k l. good-letter m x i (all-getD (Letter m) x i 0 (omega arith) w)))
+unfolding wordVerdict firstBadLetter
+word-taken m x w h = searched-taken (badLetter m x) (length x) h (λ i k. good-letter m (getD x i 0) (all-getD (Letter m) x i 0 k w))
+
+pub word-near : (m : ℕ) (x : List ℕ) → Near (wordVerdict m x)
+unfolding wordVerdict firstBadLetter
+word-near m x = searched-near (badLetter m x) (length x)

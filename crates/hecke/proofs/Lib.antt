@@ -7,6 +7,9 @@ mod Moved
 mod LowRanks
 mod LetterCut
 mod WordAction
+mod WordCounts
+mod SignedAction
+mod SignedValues
 -- the action of T_a(j,l)
 mod Pieces
 mod Levels

@@ -13,6 +13,7 @@ use Rattle.algebra.specs.Nested.{free, _⊠_, nested}
 use Rattle.algebra.proofs.NestedLetter.{nested-letter}
 use Rattle.element_calls.specs.declared.Parameters.{Parameters}
 use Rattle.element_calls.specs.Coefficients.{ring}
+use Rattle.hecke.specs.declared.blocks.Way.the-variants.{Forward}
 use Rattle.hecke.specs.Steps.{exchanging, sums, lettered, acted, multiplied, LetterPre, FactorsPre, TimesPre}
 use Rattle.hecke.proofs.Pieces.{acted-none}
 use Rattle.hecke.proofs.Summands.{multiplied-suc}
@@ -55,7 +56,7 @@ module _ {m l : ℕ} {result scratch h g : List ℕ} (one : l ≡ 1) (c : TimesP
   pub one-end : (p : Parameters) {y : List ℕ} → y ≡ multiplied p m 1 h g → y ≡ multiplied p m l h g
   one-end p e = e ∙ ap (λ (n : ℕ). multiplied p m n h g) (sym one)
 
-letter-acted : (p : Parameters) {m : ℕ} {y : List ℕ} → LetterPre m 1 y → lettered p m 1 y ≡ acted p m 1 1 y
+letter-acted : (p : Parameters) {m : ℕ} {y : List ℕ} → LetterPre m 1 y → lettered Forward p m 1 y ≡ acted p m 1 1 y
 unfolding exchanging acted
 letter-acted p {m} {y} d = sym (nested-letter ℕ (ring p) (p .q) (p .r) m 1 y (d .letter) (d .size))
 
@@ -63,7 +64,7 @@ module _ {m : ℕ} {result h g : List ℕ} (c : FactorsPre m 1 result h g) where
   pub letter-pre : {y : List ℕ} → length y ≡ length result → LetterPre m 1 y
   letter-pre e = record { rank = c .rank; letter = record { low = omega arith; high = c .within }; size = e ∙ c .result }
 
-  pub one-whole : (p : Parameters) {y z t : List ℕ} → length y ≡ length result → y ≡ scale ℕ (ring p) (getD g 1 0) h → z ≡ lettered p m 1 y
+  pub one-whole : (p : Parameters) {y z t : List ℕ} → length y ≡ length result → y ≡ scale ℕ (ring p) (getD g 1 0) h → z ≡ lettered Forward p m 1 y
       → t ≡ plus ℕ (ring p) (scale ℕ (ring p) (getD g 0 0) h) z → t ≡ multiplied p m 1 h g
   one-whole p ly ey ez e =
       let second = ez ∙ letter-acted p (letter-pre ly) ∙ ap (acted p m 1 1) ey in

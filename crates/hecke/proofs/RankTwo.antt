@@ -12,6 +12,7 @@ use Rattle.algebra.specs.Pairs.{zipped, exchanged}
 use Rattle.algebra.specs.Nested.{free, _⧺_, row, _⊞_, _⊠_, sumRow, part, level, nestedAct}
 use Rattle.element_calls.specs.declared.Parameters.{Parameters}
 use Rattle.element_calls.specs.Coefficients.{ring}
+use Rattle.hecke.specs.declared.blocks.Way.the-variants.{Forward}
 use Rattle.hecke.specs.Steps.{exchanging, acted, shifted, TwoPre}
 
 module _ (p : Parameters) where
@@ -35,10 +36,10 @@ module _ (p : Parameters) where
   copied x = take (4 - 2) (drop 2 x)
 
   abbrev first : List ℕ → List ℕ
-  first x = exchanged (exchanging p) 1 (take (4 - 2) (drop 2 x))
+  first x = exchanged (exchanging Forward p) 1 (take (4 - 2) (drop 2 x))
 
   abbrev second : (x v₂ : List ℕ) → List ℕ
-  second x v₂ = exchanged (exchanging p) 1 (take (length (x₁ x v₂) - 4) (drop 4 (x₁ x v₂)))
+  second x v₂ = exchanged (exchanging Forward p) 1 (take (length (x₁ x v₂) - 4) (drop 4 (x₁ x v₂)))
 
   abbrev added : (x w v₁ v₂ v₃ : List ℕ) → List ℕ
   added x w v₁ v₂ v₃ = plus ℕ (ring p) (take (2 - 0) (w₁ w v₁)) (take (length (x₂ x v₂ v₃) - 4) (drop 4 (x₂ x v₂ v₃)))

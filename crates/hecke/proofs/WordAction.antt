@@ -13,13 +13,14 @@ use Rattle.algebra.proofs.Generator.{letter-onPairs}
 use Rattle.algebra.proofs.OnPairs.{onPairs-length}
 use Rattle.element_calls.specs.declared.Parameters.{Parameters}
 use Rattle.element_calls.specs.Coefficients.{ring}
-use Rattle.hecke.specs.Steps.{exchanging, exchanging, lettered}
+use Rattle.hecke.specs.declared.blocks.Way.the-variants.{Forward}
+use Rattle.hecke.specs.Steps.{exchanging, lettered}
 
 module _ (p : Parameters) (m : ℕ) where
   abbrev acts : List ℕ → List ℕ → List ℕ
   acts word x = act ℕ (ring p) (p .q) (p .r) m word x
 
-  acts-last : (word : List ℕ) (i : ℕ) (x : List ℕ) → acts (word ++ (i ∷ [])) x ≡ lettered p m i (acts word x)
+  acts-last : (word : List ℕ) (i : ℕ) (x : List ℕ) → acts (word ++ (i ∷ [])) x ≡ lettered Forward p m i (acts word x)
   unfolding exchanging act
   acts-last [] i x = letter-onPairs ℕ (ring p) (p .q) (p .r) m i x
   acts-last (k ∷ word) i x = acts-last word i (letter ℕ (ring p) (p .q) (p .r) m k x)
@@ -33,13 +34,13 @@ module _ {p : Parameters} {m : ℕ} {word x₀ : List ℕ} where
   unfolding act
   acting-none e = record { value = refl; size = e }
 
-  pub acting-more : {x y : List ℕ} {i : ℕ} → i < length word → Acting p m word x₀ x i → y ≡ lettered p m (getD word i 0) x → Acting p m word x₀ y (i + 1)
+  pub acting-more : {x y : List ℕ} {i : ℕ} → i < length word → Acting p m word x₀ x i → y ≡ lettered Forward p m (getD word i 0) x → Acting p m word x₀ y (i + 1)
   acting-more {x} {i = i} h a e =
       let k = getD word i 0 in
       let more : take (i + 1) word ≡ take i word ++ (k ∷ []) = ap (λ (n : ℕ). take n word) (add-one i) ∙ take-suc word i 0 h in
       record {
-        value = e ∙ ap (lettered p m k) (a .value) ∙ sym (acts-last p m (take i word) k x₀) ∙ ap (λ (u : List ℕ). acts p m u x₀) (sym more);
-        size = ap length e ∙ onPairs-length ℕ (ring p) (exchanging p) m k x;
+        value = e ∙ ap (lettered Forward p m k) (a .value) ∙ sym (acts-last p m (take i word) k x₀) ∙ ap (λ (u : List ℕ). acts p m u x₀) (sym more);
+        size = ap length e ∙ onPairs-length ℕ (ring p) (exchanging Forward p) m k x;
       }
 
   pub acting-all : {x : List ℕ} {i : ℕ} → length word ≤ i → Acting p m word x₀ x i → x ≡ acts p m word x₀

@@ -1,8 +1,10 @@
 -- The vocabulary of the inner contracts: the steps by which the code makes x T_j, x T_a(j,l) and h g, with the parameters p. No public contract and no
 -- claim cites them.
 --
---   exchanging p            formula 4.1 as an operator on pairs
---   lettered p m j x        x T_j, for x of rank m
+--   exchanging w p          a letter as an operator on pairs: formula 4.1, or its inverse, for which p has q' and q' - 1
+--   lettered w p m j x      x T_j, or x times the inverse of T_j, for x of rank m
+--   signedLettered p p' m z x   the letter z on x, of rank m: with p, or below 0 with p'
+--   signedActed p p' m x h  h, of rank m, acted on by the signed letters x, left to right
 --   acted p m j l x         x T_a(j,l), for x of rank m, by the nested method
 --   multiplied p m l h g    h g, for h of rank m and g of rank l, by the nested method
 --   sums p a n f            f(a) + f(a + 1) + .. + f(a + n)
@@ -12,25 +14,40 @@
 --   joint p m B j l x       the blocks m + 1 - j to m + 1 - j + l of an element of rank m + 1, which are x, after the action of T_a(j,l)
 --   LetterPre, .., LayerPost  what the functions require and leave
 use mathlib.Core.Path.{_≡_}
-use mathlib.Core.List.{List, _++_}
+use mathlib.Core.List.{List, [], _∷_, _++_}
 use Prim.Native.Nat.{ℕ, zero, suc, _+_, _-_, _*_, _≤_}
 use lib.ListN.{length, take, drop}
+use lib.IntN.{ℤ, pos, negsuc}
 use Rattle.lists.specs.Numbers.{factorial}
 use Rattle.lists.specs.Blocks.{block, blocks}
 use Rattle.perms.specs.Permutation.{Letter, Word}
 use Rattle.algebra.specs.Element.{plus, scale}
 use Rattle.algebra.specs.Pairs.{OnPair, forward, onPairs}
 use Rattle.algebra.specs.Nested.{nestedAct, nested}
+use Rattle.signed_words.specs.InverseLetter.{backward}
+use Rattle.signed_words.specs.Words.{SignedLetter, SignedWord}
 use Rattle.element_calls.specs.declared.Parameters.{Parameters}
 use Rattle.element_calls.specs.Coefficients.{ring}
+use Rattle.hecke.specs.declared.blocks.Way.{Way}
+use Rattle.hecke.specs.declared.blocks.Way.the-variants.{Forward, Backward}
+
+unfoldable pub exchanging : Way → Parameters → OnPair ℕ
+exchanging Forward p = forward ℕ (ring p) (p .q) (p .r)
+exchanging Backward p = backward ℕ (ring p) (p .q) (p .r)
+
+abbrev pub lettered : Way → Parameters → (m j : ℕ) → List ℕ → List ℕ
+lettered w p m j x = onPairs ℕ (ring p) (exchanging w p) m j x
+
+module _ (p p' : Parameters) (m : ℕ) where
+  abbrev pub signedLettered : ℤ → List ℕ → List ℕ
+  signedLettered (pos j) x = lettered Forward p m j x
+  signedLettered (negsuc j) x = lettered Backward p' m (suc j) x
+
+  unfoldable pub signedActed : List ℤ → List ℕ → List ℕ
+  signedActed [] h = h
+  signedActed (z ∷ x) h = signedActed x (signedLettered z h)
 
 module _ (p : Parameters) where
-  unfoldable pub exchanging : OnPair ℕ
-  exchanging = forward ℕ (ring p) (p .q) (p .r)
-
-  abbrev pub lettered : (m j : ℕ) → List ℕ → List ℕ
-  lettered m j x = onPairs ℕ (ring p) exchanging m j x
-
   unfoldable pub acted : (m j l : ℕ) → List ℕ → List ℕ
   acted m j l x = nestedAct ℕ (ring p) (p .q) (p .r) m j l x .value
 
@@ -73,6 +90,16 @@ pub record EachLetterPre (m b n j : ℕ) (x : List ℕ) : Type 0 where
 pub record LettersPre (m : ℕ) (word x : List ℕ) : Type 0 where
   pub rank : m ≤ 6
   pub letters : Word m word
+  pub size : length x ≡ factorial (suc m)
+
+pub record SignedLetterPre (m : ℕ) (z : ℤ) (x : List ℕ) : Type 0 where
+  pub rank : m ≤ 6
+  pub letter : SignedLetter m z
+  pub size : length x ≡ factorial (suc m)
+
+pub record SignedLettersPre (m : ℕ) (word : List ℤ) (x : List ℕ) : Type 0 where
+  pub rank : m ≤ 6
+  pub letters : SignedWord m word
   pub size : length x ≡ factorial (suc m)
 
 -- ---- the action of T_a(j,l); w is the work slice

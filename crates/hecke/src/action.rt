@@ -4,6 +4,7 @@ ghost use mathlib.Core.Path.{_≡_};
 ghost use Rattle.lists.specs.Blocks.{block, blocks};
 ghost use Rattle.hecke.specs.Steps.{acted, joint, ActPre, LevelPre, EachPre, MiddlePre, TwoPre};
 use crate::blocks;
+use crate::blocks::Way;
 use crate::letters;
 use element_calls::Parameters;
 
@@ -13,7 +14,7 @@ pub(crate) fn act(x: &mut [u64], work: &mut [u64], m: usize, j: usize, l: usize,
     ensures { λ _. ⌜ now (x .exit) ≡ acted p m j l (now (x .entry)) ⌝ }
 {
     if l == 1 {
-        letters::letter(x, m, j, p);
+        letters::letter(x, m, j, Way::Forward, p);
         return;
     }
     if l == 0 {
@@ -85,8 +86,8 @@ fn level_of_rank_two(x: &mut [u64], work: &mut [u64], p: Parameters)
     ensures { λ _. ⌜ now (x .exit) ≡ acted p 2 2 2 (now (x .entry)) ⌝ }
 {
     blocks::copy(&mut work[0..2], &x[2..4]);
-    blocks::exchange(&mut x[2..4], 1, p);
-    blocks::exchange(&mut x[4..], 1, p);
+    blocks::exchange_forward(&mut x[2..4], 1, p);
+    blocks::exchange_forward(&mut x[4..], 1, p);
     blocks::add_to(&mut work[0..2], &x[4..], p);
     blocks::shift(x, work, 2, 2, p);
 }

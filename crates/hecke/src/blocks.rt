@@ -9,8 +9,15 @@ ghost use Rattle.lists.specs.Blocks.{block};
 ghost use Rattle.algebra.specs.Element.{plus, scale};
 ghost use Rattle.algebra.specs.Pairs.{exchanged};
 ghost use Rattle.element_calls.specs.Coefficients.{ring};
+ghost use Rattle.hecke.specs.declared.blocks.Way.the-variants.{Forward, Backward};
 ghost use Rattle.hecke.specs.Steps.{exchanging, collected, shifted};
 use element_calls::Parameters;
+
+// Which way a letter goes: T_j, with the parameters of q, or its inverse, with those of the inverse of q.
+pub(crate) enum Way {
+    Forward,
+    Backward,
+}
 
 pub(crate) fn copy(d: &mut [u64], s: &[u64])
     requires { ⌜ length (now d) ≡ length (now s) ⌝ }
@@ -73,10 +80,21 @@ fn move_down(x: &mut [u64], b: usize, p: Parameters)
     }
 }
 
-// In the place of two blocks s and t of b words: q t and s + r t, from the end.
-pub(crate) fn exchange(x: &mut [u64], b: usize, p: Parameters)
+// What a letter makes of two blocks of b words.
+pub(crate) fn exchange(x: &mut [u64], b: usize, way: Way, p: Parameters)
     requires { ⌜ length (now x) ≡ b + b ⌝ }
-    ensures { λ _. ⌜ now (x .exit) ≡ exchanged (exchanging p) b (now (x .entry)) ⌝ }
+    ensures { λ _. ⌜ now (x .exit) ≡ exchanged (exchanging way p) b (now (x .entry)) ⌝ }
+{
+    match way {
+        Way::Forward => exchange_forward(x, b, p),
+        Way::Backward => exchange_backward(x, b, p),
+    }
+}
+
+// In the place of two blocks s and t of b words: q t and s + r t, from the end.
+pub(crate) fn exchange_forward(x: &mut [u64], b: usize, p: Parameters)
+    requires { ⌜ length (now x) ≡ b + b ⌝ }
+    ensures { λ _. ⌜ now (x .exit) ≡ exchanged (exchanging Forward p) b (now (x .entry)) ⌝ }
 {
     let mut i = b;
     while 0 < i {
@@ -85,6 +103,21 @@ pub(crate) fn exchange(x: &mut [u64], b: usize, p: Parameters)
         let t = x[b + i];
         x[i] = ring::mul(p.q, t);
         x[b + i] = ring::add(s, ring::mul(p.r, t));
+    }
+}
+
+// In the place of two blocks s and t of b words: t + r s and q s, from the end.
+fn exchange_backward(x: &mut [u64], b: usize, p: Parameters)
+    requires { ⌜ length (now x) ≡ b + b ⌝ }
+    ensures { λ _. ⌜ now (x .exit) ≡ exchanged (exchanging Backward p) b (now (x .entry)) ⌝ }
+{
+    let mut i = b;
+    while 0 < i {
+        i -= 1;
+        let s = x[i];
+        let t = x[b + i];
+        x[i] = ring::add(t, ring::mul(p.r, s));
+        x[b + i] = ring::mul(p.q, s);
     }
 }
 

@@ -1,77 +1,79 @@
-// One letter T_j on an element, for the parameters p, and the letters of a word.
+// One letter on an element, T_j or its inverse, for the parameters p, and the letters of a word.
 
 ghost use mathlib.Core.Path.{_≡_};
 ghost use Prim.Native.Nat.{ℕ};
 ghost use Rattle.lists.specs.Blocks.{block, blocks};
 ghost use Rattle.algebra.specs.Product.{act};
 ghost use Rattle.element_calls.specs.Coefficients.{ring};
-ghost use Rattle.hecke.specs.Steps.{lettered, LetterPre, EachLetterPre, LettersPre};
+ghost use Rattle.hecke.specs.Steps.{lettered, signedLettered, signedActed, LetterPre, EachLetterPre, LettersPre, SignedLetterPre, SignedLettersPre};
 use crate::blocks;
+use crate::blocks::Way;
 use element_calls::Parameters;
+use element_calls::signed;
 
-// x T_j in the place of x, of rank m. The blocks m - j and m - j + 1 change together; on each other block T_j or T_(j-1) acts by
-// itself.
-pub(crate) fn letter(x: &mut [u64], m: usize, j: usize, p: Parameters)
+// x T_j, or x times the inverse of T_j, in the place of x, of rank m. The blocks m - j and m - j + 1 change together; on each other
+// block the letter j or j - 1 acts by itself.
+pub(crate) fn letter(x: &mut [u64], m: usize, j: usize, way: Way, p: Parameters)
     requires { ⌜ LetterPre m j (now x) ⌝ }
-    ensures { λ _. ⌜ now (x .exit) ≡ lettered p m j (now (x .entry)) ⌝ }
+    ensures { λ _. ⌜ now (x .exit) ≡ lettered way p m j (now (x .entry)) ⌝ }
 {
     if m == 2 {
-        letter_of_rank_two(x, j, p);
+        letter_of_rank_two(x, j, way, p);
         return;
     }
     if m == 1 {
-        blocks::exchange(x, 1, p);
+        blocks::exchange(x, 1, way, p);
         return;
     }
     let lower = m - 1;
     let b = crate::size(lower);
     let low = (m - j) * b;
     let high = low + b + b;
-    each_letter(&mut x[0..low], lower, b, m - j, j, p);
-    blocks::exchange(&mut x[low..high], b, p);
-    each_letter(&mut x[high..], lower, b, j - 1, j - 1, p);
+    each_letter(&mut x[0..low], lower, b, m - j, j, way, p);
+    blocks::exchange(&mut x[low..high], b, way, p);
+    each_letter(&mut x[high..], lower, b, j - 1, j - 1, way, p);
 }
 
-// T_j acts on each of the n blocks of x, of rank m and b words.
-fn each_letter(x: &mut [u64], m: usize, b: usize, n: usize, j: usize, p: Parameters)
+// The letter j acts on each of the n blocks of x, of rank m and b words.
+fn each_letter(x: &mut [u64], m: usize, b: usize, n: usize, j: usize, way: Way, p: Parameters)
     requires { ⌜ EachLetterPre m b n j (now x) ⌝ }
-    ensures { λ _. ⌜ now (x .exit) ≡ blocks n (λ k. lettered p m j (block b k (now (x .entry)))) ⌝ }
+    ensures { λ _. ⌜ now (x .exit) ≡ blocks n (λ k. lettered way p m j (block b k (now (x .entry)))) ⌝ }
 {
     if m == 2 {
-        each_of_rank_two(x, n, j, p);
+        each_of_rank_two(x, n, j, way, p);
         return;
     }
     for k in 0..n {
         let at = k * b;
         let end = at + b;
-        letter(&mut x[at..end], m, j, p);
+        letter(&mut x[at..end], m, j, way, p);
     }
 }
 
 // The same for blocks of rank 2.
-fn each_of_rank_two(x: &mut [u64], n: usize, j: usize, p: Parameters)
+fn each_of_rank_two(x: &mut [u64], n: usize, j: usize, way: Way, p: Parameters)
     requires { ⌜ EachLetterPre 2 6 n j (now x) ⌝ }
-    ensures { λ _. ⌜ now (x .exit) ≡ blocks n (λ k. lettered p 2 j (block 6 k (now (x .entry)))) ⌝ }
+    ensures { λ _. ⌜ now (x .exit) ≡ blocks n (λ k. lettered way p 2 j (block 6 k (now (x .entry)))) ⌝ }
 {
     for k in 0..n {
         let at = k * 6;
         let end = at + 6;
-        letter_of_rank_two(&mut x[at..end], j, p);
+        letter_of_rank_two(&mut x[at..end], j, way, p);
     }
 }
 
-// x T_j in the place of x, of rank 2.
-fn letter_of_rank_two(x: &mut [u64], j: usize, p: Parameters)
+// The letter j on x, of rank 2.
+fn letter_of_rank_two(x: &mut [u64], j: usize, way: Way, p: Parameters)
     requires { ⌜ LetterPre 2 j (now x) ⌝ }
-    ensures { λ _. ⌜ now (x .exit) ≡ lettered p 2 j (now (x .entry)) ⌝ }
+    ensures { λ _. ⌜ now (x .exit) ≡ lettered way p 2 j (now (x .entry)) ⌝ }
 {
     if j == 1 {
-        blocks::exchange(&mut x[0..2], 1, p);
-        blocks::exchange(&mut x[2..], 2, p);
+        blocks::exchange(&mut x[0..2], 1, way, p);
+        blocks::exchange(&mut x[2..], 2, way, p);
         return;
     }
-    blocks::exchange(&mut x[0..4], 2, p);
-    blocks::exchange(&mut x[4..], 1, p);
+    blocks::exchange(&mut x[0..4], 2, way, p);
+    blocks::exchange(&mut x[4..], 1, way, p);
 }
 
 // The letters act on x one by one.
@@ -80,6 +82,35 @@ pub(crate) fn act_letters(x: &mut [u64], word: &[u8], m: usize, p: Parameters)
     ensures { λ _. ⌜ now (x .exit) ≡ act ℕ (ring p) (p .q) (p .r) m (now (word .entry)) (now (x .entry)) ⌝ }
 {
     for i in 0..word.len() {
-        letter(x, m, word[i] as usize, p);
+        letter(x, m, word[i] as usize, Way::Forward, p);
+    }
+}
+
+// The letter z on x, of rank m: with p, or below 0 the inverse of its generator, with back.
+fn signed_letter(x: &mut [u64], z: i8, m: usize, p: Parameters, back: Parameters)
+    requires { ⌜ SignedLetterPre m z (now x) ⌝ }
+    ensures { λ _. ⌜ now (x .exit) ≡ signedLettered p back m z (now (x .entry)) ⌝ }
+{
+    let j = signed::size_of(z);
+    if z < 0 {
+        letter(x, m, j, Way::Backward, back);
+        return;
+    }
+    letter(x, m, j, Way::Forward, p);
+}
+
+// The signed letters act on x one by one.
+pub(crate) fn act_signed_letters(
+    x: &mut [u64],
+    word: &[i8],
+    m: usize,
+    p: Parameters,
+    back: Parameters,
+)
+    requires { ⌜ SignedLettersPre m (now word) (now x) ⌝ }
+    ensures { λ _. ⌜ now (x .exit) ≡ signedActed p back m (now (word .entry)) (now (x .entry)) ⌝ }
+{
+    for i in 0..word.len() {
+        signed_letter(x, word[i], m, p, back);
     }
 }

@@ -7,8 +7,9 @@
 ghost use mathlib.Core.Path.{_≡_};
 ghost use Prim.Native.Nat.{suc, _≤_};
 ghost use Rattle.lists.specs.Numbers.{factorial};
-ghost use Rattle.element_calls.specs.Calls.{actWordCall, productCall};
+ghost use Rattle.element_calls.specs.Calls.{actWordCall, actSignedWordCall, productCall};
 use element_calls::checks;
+use element_calls::signed;
 use refusals::Answer;
 use refusals::Verdict;
 use refusals::accepted;
@@ -43,6 +44,28 @@ pub fn act_word(m: usize, q: u64, word: &[u8], element: &mut [u64]) -> Answer
         return refused(why);
     }
     letters::act_letters(element, word, m, element_calls::parameters_of(q));
+    accepted(word.len() as u64 * (3 * size(m) as u64 / 2))
+}
+
+// The word's signed letters act on the element of rank m, left to right: i stands for T_i and -i for its inverse, q' T_i + (q' - 1)
+// for the inverse q' of q. 3M/2 ring operations a letter, either way.
+// Refused: 1 a rank above 6; 2 an element that is not M words; 4 a word of over 4,096 letters, or the first letter that is 0
+// or outside -m to m; 15 the first letter below 0, if q is even and so has no inverse.
+// Example: of rank 1 with q = 3, the word 1 -1 leaves 1 0 as it is.
+pub fn act_signed_word(m: usize, q: u64, word: &[i8], element: &mut [u64]) -> Answer
+    ensures { λ a. ⌜ actSignedWordCall m q (now (word .entry)) (now (element .entry)) ≡ record { answer = a; lent = now (element .exit) } ⌝ }
+{
+    let checked = signed::check(m, element.len(), q, word);
+    if let Verdict::Refused(why) = checked {
+        return refused(why);
+    }
+    letters::act_signed_letters(
+        element,
+        word,
+        m,
+        element_calls::parameters_of(q),
+        signed::inverse_parameters(q, word),
+    );
     accepted(word.len() as u64 * (3 * size(m) as u64 / 2))
 }
 

@@ -4,6 +4,7 @@ ghost use mathlib.Core.Path.{_≡_};
 ghost use Rattle.hecke.specs.Steps.{multiplied, FactorsPre, TimesPre, LayerPre, LayerPost};
 use crate::action;
 use crate::blocks;
+use crate::blocks::Way;
 use crate::letters;
 use element_calls::Parameters;
 
@@ -46,7 +47,7 @@ fn times_one(result: &mut [u64], h: &[u64], g: &[u64], m: usize, p: Parameters)
     ensures { λ _. ⌜ now (result .exit) ≡ multiplied p m 1 (now (h .entry)) (now (g .entry)) ⌝ }
 {
     blocks::multiple(result, g[1], h, p);
-    letters::letter(result, m, 1, p);
+    letters::letter(result, m, 1, Way::Forward, p);
     blocks::add_multiple(result, g[0], h, p);
 }
 

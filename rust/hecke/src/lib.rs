@@ -188,6 +188,26 @@ pub fn act_word(m: usize, q: u64, word: &[u8], element: &mut [u64]) -> Result<u6
     .map(|[count]| count)
 }
 
+/// Changes an element of rank m by a word of signed letters, left to right, and answers the count: the letter i is T_i, and -i
+/// its inverse, for odd q. The mirror word read backwards undoes a word.
+///
+/// ```
+/// let mut element = [1, 0];
+/// assert_eq!(hecke::act_signed_word(1, 3, &[1, 1, -1], &mut element), Ok(9));
+/// assert_eq!(element, [0, 1]);
+/// assert_eq!(hecke::act_signed_word(1, 3, &[1, -1, -1], &mut element), Ok(9));
+/// assert_eq!(element, [1, 0]);
+///
+/// let even = hecke::act_signed_word(1, 2, &[1, -1], &mut element);
+/// assert_eq!(even, Err(hecke::Refusal { number: 15, place: 1 }));
+/// ```
+pub fn act_signed_word(m: usize, q: u64, word: &[i8], element: &mut [u64]) -> Result<u64, Refusal> {
+    answered(|answer, room| unsafe {
+        raw::hecke_act_signed_word(m, q, word.as_ptr(), word.len(), element.as_mut_ptr(), element.len(), answer, room)
+    })
+    .map(|[count]| count)
+}
+
 /// Writes the product of two elements of rank m, and answers the count. The scratch has `scratch_size(m)` words or more; the
 /// first `scratch_size(m)` of them are zero afterwards.
 ///

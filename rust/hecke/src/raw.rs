@@ -67,6 +67,17 @@ extern "C" {
         answer_len: usize,
     ) -> u64;
 
+    pub fn hecke_act_signed_word(
+        m: usize,
+        q: u64,
+        word: *const i8,
+        word_len: usize,
+        element: *mut u64,
+        element_len: usize,
+        answer: *mut u64,
+        answer_len: usize,
+    ) -> u64;
+
     pub fn hecke_product(
         m: usize,
         q: u64,

@@ -41,6 +41,22 @@ fn permutations(m: usize) -> Vec<Vec<u8>> {
     all
 }
 
+/// The inverse of q modulo 2^64, bit by bit from the lowest; even q has none.
+pub fn inverse(q: u64) -> Option<u64> {
+    let mut x = 0u64;
+    for bit in 0..64 {
+        x |= (q.wrapping_mul(x) ^ 1) & 1 << bit;
+    }
+    (q.wrapping_mul(x) == 1).then_some(x)
+}
+
+/// What the inverse of T_i makes of h, from h T_i: q' (h T_i) + (q' - 1) h, where q' is the inverse of q.
+pub fn undone(q: u64, h: &[u64], acted: &[u64]) -> Vec<u64> {
+    let inverse = inverse(q).expect("q is odd");
+    let both = h.iter().zip(acted);
+    both.map(|(x, y)| inverse.wrapping_mul(*y).wrapping_add(inverse.wrapping_sub(1).wrapping_mul(*x))).collect()
+}
+
 impl Group {
     fn new(m: usize) -> Group {
         let permutations = permutations(m);
@@ -87,6 +103,18 @@ impl Group {
             swap(&mut old, &mut new);
         }
         old
+    }
+
+    /// The word's letters act on h, left to right: i is T_i, and -i its inverse.
+    pub fn act_signed(&self, q: u64, h: &[u64], word: &[i8]) -> Vec<u64> {
+        word.iter().fold(h.to_vec(), |h, &i| {
+            let acted = self.act(q, &h, &[i.unsigned_abs()]);
+            if i < 0 {
+                undone(q, &h, &acted)
+            } else {
+                acted
+            }
+        })
     }
 
     /// The product: the sum over all v of b_v h T_v, where T_v acts through a shortest word of v (formula 4.4).
@@ -137,6 +165,17 @@ pub fn act_word(m: usize, q: u64, word: &[u8], element: &mut [u64]) -> Result<u6
     Ok((word.len() * 3 * size / 2) as u64)
 }
 
+/// Changes an element by a word of signed letters, left to right, and answers the count.
+pub fn act_signed_word(m: usize, q: u64, word: &[i8], element: &mut [u64]) -> Result<u64, Refusal> {
+    let size = check_sizes(m, &[element.len()])?;
+    refuse(word.len() > 4096, 4, 4096)?;
+    refuse_first(word, 4, |_, &i| i == 0 || i.unsigned_abs() as usize > m)?;
+    refuse_first(word, 15, |_, &i| i < 0 && inverse(q).is_none())?;
+    let acted = Group::of_rank(m).act_signed(q, element, word);
+    element.copy_from_slice(&acted);
+    Ok((word.len() * 3 * size / 2) as u64)
+}
+
 /// Writes the product of two elements, clears the first (m + 6) M words of the scratch, and answers the count.
 pub fn product(m: usize, q: u64, left: &[u64], right: &[u64], result: &mut [u64], scratch: &mut [u64]) -> Result<u64, Refusal> {
     let size = check_sizes(m, &[left.len(), right.len(), result.len()])?;
@@ -168,6 +207,39 @@ mod tests {
         assert_eq!(Group::of_rank(1).times(0, &[0, 1], &[0, 1]), [0, u64::MAX]);
         assert_eq!(Group::of_rank(1).times(1, &[0, 1], &[0, 1]), [1, 0]);
         assert_eq!(Group::of_rank(1).act(3, &[1, 0], &[1, 1]), [3, 2]);
+    }
+
+    #[test]
+    fn inverses() {
+        assert_eq!(inverse(3), Some(12297829382473034411));
+        assert_eq!(inverse(u64::MAX), Some(u64::MAX));
+        for q in (1..2000).chain(u64::MAX - 2000..=u64::MAX) {
+            assert_eq!(inverse(q).map(|x| x.wrapping_mul(q)), (q % 2 == 1).then_some(1));
+        }
+    }
+
+    /// At q = 3 the inverse of T_1 is a T_1 + a - 1, where 3 a = 1; it undoes T_1.
+    #[test]
+    fn signed_words() {
+        let group = Group::of_rank(1);
+        assert_eq!(group.act_signed(3, &[1, 0], &[-1]), [12297829382473034410, 12297829382473034411]);
+        assert_eq!(group.act_signed(3, &[5, 7], &[1, -1]), [5, 7]);
+        assert_eq!(group.act_signed(3, &[5, 7], &[-1, 1]), [5, 7]);
+        assert_eq!(Group::of_rank(2).act_signed(9, &[1, 2, 3, 4, 5, 6], &[1, -2, 2, -1]), [1, 2, 3, 4, 5, 6]);
+    }
+
+    #[test]
+    fn refused_signed_words() {
+        let mut element = [1; 6];
+        let refused = |number, place| Err(Refusal { number, place });
+        assert_eq!(act_signed_word(7, 2, &[-1, 0], &mut element), refused(1, 0));
+        assert_eq!(act_signed_word(2, 2, &[-1, 0], &mut element[1..]), refused(2, 0));
+        assert_eq!(act_signed_word(2, 2, &[-1, 0], &mut element), refused(4, 1));
+        assert_eq!(act_signed_word(2, 2, &[-1, -128], &mut element), refused(4, 1));
+        assert_eq!(act_signed_word(2, 2, &[-1; 4097], &mut element), refused(4, 4096));
+        assert_eq!(act_signed_word(2, 2, &[1, -1, -2], &mut element), refused(15, 1));
+        assert_eq!(act_signed_word(2, 2, &[1, 2], &mut element), Ok(18));
+        assert_eq!(act_signed_word(2, 3, &[1, -1, -2], &mut element), Ok(27));
     }
 
     /// Each word of the group's own gives the permutation that it is for, and is as long.

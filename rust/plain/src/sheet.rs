@@ -1,6 +1,6 @@
 //! Run sheets: the check of a whole sheet, its run, and what the program prints (document 01, "Run sheets").
 
-use crate::element::{size, Group};
+use crate::element::{inverse, size, undone, Group};
 use crate::{count, refuse, Refusal};
 use std::fmt::Write;
 
@@ -14,6 +14,7 @@ enum Command {
     Product { d: usize, a: usize, b: usize },
     Sum { d: usize, a: usize, b: usize },
     Scale { r: usize, v: u64 },
+    Inverse { r: usize, i: u8 },
     Show { r: usize },
     Pairing { a: usize, b: usize },
     Equal { a: usize, b: usize },
@@ -27,7 +28,7 @@ fn widths(code: u8) -> Option<&'static [usize]> {
         0x10 => Some(&[1, 8]),
         0x20 | 0x40 => Some(&[1]),
         0x21 => Some(&[1, 2, 8]),
-        0x30 | 0x41 | 0x42 => Some(&[1, 1]),
+        0x30 | 0x34 | 0x41 | 0x42 => Some(&[1, 1]),
         0x31 | 0x32 => Some(&[1, 1, 1]),
         0x33 => Some(&[1, 8]),
         _ => None,
@@ -57,6 +58,7 @@ fn command(code: u8, x: &[u64]) -> Command {
         0x31 => Command::Product { d: at(0), a: at(1), b: at(2) },
         0x32 => Command::Sum { d: at(0), a: at(1), b: at(2) },
         0x33 => Command::Scale { r: at(0), v: x[1] },
+        0x34 => Command::Inverse { r: at(0), i: x[1] as u8 },
         0x40 => Command::Show { r: at(0) },
         0x41 => Command::Pairing { a: at(0), b: at(1) },
         0x42 => Command::Equal { a: at(0), b: at(1) },
@@ -72,7 +74,7 @@ impl Command {
             Command::Begin { m, .. } => m <= 5,
             Command::Unit { r } | Command::Scale { r, .. } | Command::Show { r } => registers(&[r]),
             Command::Coefficient { r, i, .. } => registers(&[r]) && i < size(m),
-            Command::Generator { r, i } => registers(&[r]) && i >= 1 && i as usize <= m,
+            Command::Generator { r, i } | Command::Inverse { r, i } => registers(&[r]) && i >= 1 && i as usize <= m,
             Command::Product { d, a, b } | Command::Sum { d, a, b } => registers(&[d, a, b]),
             Command::Pairing { a, b } | Command::Equal { a, b } => registers(&[a, b]),
             Command::End => true,
@@ -83,7 +85,7 @@ impl Command {
 /// The commands of a sheet, the end command among them, or its refusal.
 fn commands(sheet: &[u8]) -> Result<Vec<Command>, Refusal> {
     refuse(sheet.is_empty() || sheet.len() > 4096, 9, 0)?;
-    let (mut list, mut offset, mut rank) = (Vec::new(), 0, 0);
+    let (mut list, mut offset, mut rank, mut invertible) = (Vec::new(), 0, 0, false);
     while offset < sheet.len() {
         let (code, rest) = (sheet[offset], &sheet[offset + 1..]);
         let Some(widths) = widths(code) else {
@@ -93,10 +95,11 @@ fn commands(sheet: &[u8]) -> Result<Vec<Command>, Refusal> {
         refuse(rest.len() < width, 11, offset)?;
         refuse((code == 0x10) != (offset == 0), 12, offset)?;
         let command = command(code, &operands(rest, widths));
-        if let Command::Begin { m, .. } = command {
-            rank = m;
+        if let Command::Begin { m, q } = command {
+            (rank, invertible) = (m, inverse(q).is_some());
         }
         refuse(!command.in_range(rank), 13, offset)?;
+        refuse(code == 0x34 && !invertible, 15, offset)?;
         list.push(command);
         offset += 1 + width;
         if command == Command::End {
@@ -160,6 +163,11 @@ impl Run {
             Command::Generator { r, i } => {
                 (self.method.act)(self.m, self.q, &[i], &mut self.registers[r]);
                 self.count += 3 * size / 2;
+            }
+            Command::Inverse { r, i } => {
+                let mut acted = self.registers[r].clone();
+                (self.method.act)(self.m, self.q, &[i], &mut acted);
+                self.write(r, undone(self.q, &self.registers[r], &acted), 3 * size / 2);
             }
             Command::Product { d, a, b } => {
                 let mut words = vec![0; size as usize];
@@ -255,6 +263,18 @@ mod tests {
         assert_eq!(run(&sheet, &mut registers), Ok(6));
         assert_eq!(registers[..2], [3, 2]);
         assert!(registers[2..].iter().all(|&word| word == 0));
+    }
+
+    /// A letter, its inverse and again its inverse, at q = 3, where a is the inverse of 3: the last leaves a T_1 + a - 1.
+    #[test]
+    fn inverse_letters() {
+        let mut sheet = [0x10, 1, 3, 0, 0, 0, 0, 0, 0, 0, 0x20, 0, 0x30, 0, 1, 0x34, 0, 1, 0x40, 0, 0x34, 0, 1, 0x40, 0, 0];
+        let expected = b"H 1 3\nR 0\n0 1\nR 0\n0 12297829382473034410\n1 12297829382473034411\nN 9\n";
+        assert_eq!(printed(&sheet), expected);
+        sheet[2] = 2;
+        assert_eq!(printed(&sheet), b"E 15 15\n");
+        sheet[17] = 2;
+        assert_eq!(printed(&sheet), b"E 13 15\n");
     }
 
     #[test]

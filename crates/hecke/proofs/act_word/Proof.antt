@@ -1,9 +1,8 @@
--- The rank, the element and the word are judged; then the letters act. Rests on refusals' Verdicts and Ended, ranks' Sizes, and element_calls' Verdicts and
+-- The rank, the element and the word are judged; then the letters act. Rests on WordCounts, refusals' Verdicts and Ended, ranks' Sizes, and element_calls' Verdicts and
 -- Calls.
 use mathlib.Core.Path.{_≡_, sym, ap, _∙_}
 use mathlib.Core.List.{List}
-use Prim.Native.Nat.{ℕ, suc, _*_, _/_, _^_, _≤_, _<_}
-use native.Mathlib.Nat.{mul-le-mul-right}
+use Prim.Native.Nat.{ℕ, suc, _*_, _/_, _≤_}
 use native.Mathlib.Omega.{arith}
 use borrow.Author.Needs.{needs}
 use lib.ListN.{length}
@@ -20,6 +19,7 @@ use Rattle.element_calls.specs.Coefficients.{ring, parametersOf}
 use Rattle.element_calls.specs.Calls.{rankVerdict, sizeVerdict, wordVerdict, actWordCall}
 use Rattle.element_calls.proofs.Verdicts.{one-accepted, word-accepted}
 use Rattle.element_calls.proofs.Calls.{write-done}
+use Rattle.hecke.proofs.WordCounts.{few}
 use Rattle.hecke.proofs.act_word.Statement.{statement}
 use Rattle.hecke.proofs.act_word.Tie as tie
 
@@ -40,9 +40,6 @@ taken m x h e =
 letters-act : {p : Parameters} {y : List ℕ} (m q : ℕ) (x h : List ℕ) → y ≡ act ℕ (ring p) (p .q) (p .r) m x h → p ≡ parametersOf q
     → let p′ = parametersOf q in y ≡ act ℕ (ring p′) (p′ .q) (p′ .r) m x h
 letters-act m q x h e d = e ∙ ap (λ (p : Parameters). act ℕ (ring p) (p .q) (p .r) m x h) d
-
-few : (n k : ℕ) → n ≤ 4096 → k ≤ 7560 → n * k < 2 ^ 64
-few n k a b = let l : n * k ≤ 4096 * k = mul-le-mul-right k a in omega arith
 
 -- ---- places: the checks, where they refuse and where they accept, and the action
 

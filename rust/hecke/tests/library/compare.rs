@@ -158,6 +158,23 @@ pub fn act_word(m: usize, q: u64, word: &[u8], element: &[u64]) -> Answer {
     answer
 }
 
+pub fn act_signed_word(m: usize, q: u64, word: &[i8], element: &[u64]) -> Answer {
+    let (mut due, mut safe) = (element.to_vec(), element.to_vec());
+    let answer = answer!(plain::act_signed_word(m, q, word, &mut due));
+    assert_eq!(answer!(hecke::act_signed_word(m, q, word, &mut safe)), answer);
+    assert_eq!(safe, due);
+    let bytes: Vec<u8> = word.iter().map(|&letter| letter as u8).collect();
+    for room in ROOMS {
+        let (mut letters, mut h) = (Lent::new(&bytes), Lent::new(element));
+        judge(&answer, room, |words, room| unsafe {
+            raw::hecke_act_signed_word(m, q, letters.ptr().cast(), letters.len(), h.ptr(), h.len(), words, room)
+        });
+        letters.assert_holds(&bytes);
+        h.assert_holds(&due);
+    }
+    answer
+}
+
 /// The rank, q and factors of a product.
 pub struct Factors<'a> {
     pub m: usize,

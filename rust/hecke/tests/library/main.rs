@@ -9,4 +9,5 @@ mod lent;
 mod random;
 mod runs;
 mod sheets;
+mod signed_words;
 mod towers;

@@ -55,6 +55,11 @@ impl Random {
         (0..size).map(|_| self.below(m) as u8 + 1).collect()
     }
 
+    /// Letters of both signs.
+    pub fn signed_letters(&mut self, m: usize, size: usize) -> Vec<i8> {
+        (0..size).map(|_| (self.below(m) as i8 + 1) * self.pick(&[1, -1])).collect()
+    }
+
     /// So many coefficients: any words, edges, small ones, or a single 1.
     pub fn element(&mut self, size: usize) -> Vec<u64> {
         match self.below(4) {

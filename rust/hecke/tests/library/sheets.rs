@@ -5,33 +5,48 @@ use crate::random::Random;
 use hecke::size;
 
 /// The codes, and the widths of their operands.
-const COMMANDS: [(u8, usize); 11] =
-    [(0x00, 0), (0x10, 9), (0x20, 1), (0x21, 11), (0x30, 2), (0x31, 3), (0x32, 3), (0x33, 9), (0x40, 1), (0x41, 2), (0x42, 2)];
+const COMMANDS: [(u8, usize); 12] = [
+    (0x00, 0),
+    (0x10, 9),
+    (0x20, 1),
+    (0x21, 11),
+    (0x30, 2),
+    (0x31, 3),
+    (0x32, 3),
+    (0x33, 9),
+    (0x34, 2),
+    (0x40, 1),
+    (0x41, 2),
+    (0x42, 2),
+];
 
 fn begin(random: &mut Random, m: usize) -> Vec<u8> {
     [vec![0x10, m as u8], random.bytes(8)].concat()
 }
 
-/// A command between begin and end, each operand in its range.
-fn command(random: &mut Random, m: usize) -> Vec<u8> {
+/// A command between begin and end, each operand in its range; an inverse letter only where there may be one.
+fn command(random: &mut Random, m: usize, inverses: bool) -> Vec<u8> {
     let mut registers = random.bytes(3);
     registers.iter_mut().for_each(|r| *r %= 4);
     let (code, width) = random.pick(&COMMANDS[2..]);
     let operands = match code {
         0x21 => [&registers[..1], &(random.below(size(m)) as u16).to_le_bytes()[..], &random.bytes(8)].concat(),
-        0x30 if m == 0 => return command(random, m),
-        0x30 => vec![registers[0], random.below(m) as u8 + 1],
+        0x30 if m == 0 => return command(random, m, inverses),
+        0x34 if m == 0 || !inverses => return command(random, m, inverses),
+        0x30 | 0x34 => vec![registers[0], random.below(m) as u8 + 1],
         0x33 => [&registers[..1], &random.bytes(8)].concat(),
         _ => registers[..width].to_vec(),
     };
     [&[code], &operands[..]].concat()
 }
 
-/// A sheet of rank m and of exactly so many bytes, 11 or from 13 on, that nothing refuses but its size.
+/// A sheet of rank m and of exactly so many bytes, 11 or from 13 on, that nothing refuses but its size. With odd q it may have
+/// inverse letters.
 pub fn sheet(random: &mut Random, m: usize, bytes: usize) -> Vec<u8> {
     let mut sheet = begin(random, m);
+    let odd = sheet[2] % 2 == 1;
     while sheet.len() + 1 < bytes {
-        let (next, rest) = (command(random, m), bytes - 1 - sheet.len());
+        let (next, rest) = (command(random, m, odd), bytes - 1 - sheet.len());
         // No command has one byte.
         if next.len() == rest || next.len() + 2 <= rest {
             sheet.extend(next);
@@ -137,11 +152,11 @@ pub fn faulty(random: &mut Random) -> Vec<u8> {
     let mut sheet = if random.below(9) == 0 { vec![] } else { begin(random, m) };
     for _ in 0..random.below(6) {
         sheet.extend(match random.below(16) {
-            0 => vec![random.pick(&[0x01, 0x11, 0x22, 0x34, 0x43, 0xff])],
+            0 => vec![random.pick(&[0x01, 0x11, 0x22, 0x35, 0x43, 0xff])],
             1 => begin(random, m),
             2 => vec![random.pick(&[0x20, 0x40]), 4],
             3 => vec![0],
-            _ => command(random, m),
+            _ => command(random, m, true),
         });
     }
     sheet.extend(random.pick(&[&[0][..], &[], &[0, 0], &[0x33, 0]]));
@@ -156,6 +171,6 @@ fn faults_together() {
         let number = sheet_check(&faulty(random)).map_or_else(|(number, _)| number, |_| 0);
         *met.entry(number).or_insert(0) += 1;
     }
-    assert_eq!(met.keys().copied().collect::<Vec<u8>>(), [0, 9, 10, 11, 12, 13, 14]);
+    assert_eq!(met.keys().copied().collect::<Vec<u8>>(), [0, 9, 10, 11, 12, 13, 14, 15]);
     assert!(met.values().all(|&times| times > 20), "{met:?}");
 }

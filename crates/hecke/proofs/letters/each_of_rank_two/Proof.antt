@@ -10,10 +10,10 @@ use Rattle.hecke.proofs.letters.each_of_rank_two.Statement.{statement}
 use Rattle.hecke.proofs.letters.each_of_rank_two.Tie as tie
 
 abbrev Inv-loop : tie.InvT-loop
-Inv-loop x₀ n j p k₀ x k = (k ≤ n) × Passed 6 (λ i. lettered p 2 j) x₀ x k
+Inv-loop x₀ n j way p k₀ x k = (k ≤ n) × Passed 6 (λ i. lettered way p 2 j) x₀ x k
 
 abbrev μ-loop : tie.MeasureT-loop
-μ-loop x₀ n j p k₀ x k = n - k
+μ-loop x₀ n j way p k₀ x k = n - k
 
 loop-holds : tie.Need-loop-holds Inv-loop μ-loop
 loop-holds c = (omega arith, passed-none _ _ _)

@@ -6,6 +6,7 @@ use native.Mathlib.Omega.{arith}
 use Rattle.algebra.proofs.NestedLetter.{nested-letter}
 use Rattle.element_calls.specs.declared.Parameters.{Parameters}
 use Rattle.element_calls.specs.Coefficients.{ring}
+use Rattle.hecke.specs.declared.blocks.Way.the-variants.{Forward}
 use Rattle.hecke.specs.Steps.{exchanging, lettered, acted, LetterPre, ActPre}
 use Rattle.hecke.proofs.Pieces.{acted-none}
 use Rattle.hecke.proofs.action.+act+each+level+middle.Proof.Measures.{act-at, level-below}
@@ -19,7 +20,7 @@ use Rattle.hecke.proofs.letters.letter.Reads as letter-reads
 letter-pre : {m j l : ℕ} {x w : List ℕ} → ActPre m j l x w → l ≡ 1 → LetterPre m j x
 letter-pre c e = record { rank = c .rank; letter = record { low = omega (arith, c .within); high = c .below }; size = c .size }
 
-letter-acted : {m j l : ℕ} {x w v : List ℕ} (p : Parameters) → ActPre m j l x w → l ≡ 1 → v ≡ lettered p m j x → v ≡ acted p m j l x
+letter-acted : {m j l : ℕ} {x w v : List ℕ} (p : Parameters) → ActPre m j l x w → l ≡ 1 → v ≡ lettered Forward p m j x → v ≡ acted p m j l x
 unfolding exchanging acted
 letter-acted {m} {j} {x = x} p c one e =
     let pre = letter-pre c one in

@@ -24,10 +24,10 @@ abbrev pub μ-letter : Measures 1 letter-kinds.ps ℕ
 μ-letter κs a = a .1 .0 + a .1 .0
 
 abbrev pub Inv-loop : lts.InvT-loop
-Inv-loop x₀ m b n j p k₀ x k = (k ≤ n) × Passed b (λ i. lettered p m j) x₀ x k
+Inv-loop x₀ m b n j way p k₀ x k = (k ≤ n) × Passed b (λ i. lettered way p m j) x₀ x k
 
 abbrev pub μ-loop : lts.MeasureT-loop
-μ-loop x₀ m b n j p k₀ x k = n - k
+μ-loop x₀ m b n j way p k₀ x k = n - k
 
 module _ (t : ℕ) where
   abbrev pub asked : In 1 each-letter-kinds.ps

@@ -1,4 +1,4 @@
--- What `letter` needs, with `exchanging p` as any operator on pairs: an exchange at rank 1, the letter of rank 2, and else the three parts of x. Rests on
+-- What `letter` needs, with `exchanging way p` as any operator on pairs: an exchange at rank 1, the letter of rank 2, and else the three parts of x. Rests on
 -- EachNeeds, LowRanks, LetterCut and lists' Cuts.
 use mathlib.Core.Path.{sym, ap, _∙_, subst}
 use Prim.Native.Nat.{ℕ, _+_, _*_, _-_, _≤_, _<_}
@@ -65,7 +65,7 @@ module _ (t : ℕ) where
       let after = c .before .before in
       let two = after .before .before in
       let u = two .before .before .args in
-      after .letter-of-rank-two .ensures ∙ ap (λ (n : ℕ). lettered (u .p) n (u .j) (u .x .now)) (sym (two .if1 .taken))
+      after .letter-of-rank-two .ensures ∙ ap (λ (n : ℕ). lettered (u .way) (u .p) n (u .j) (u .x .now)) (sym (two .if1 .taken))
 
   pub exchange-requires : lts.Need-exchange-requires claims asked letter.Post
   exchange-requires c κs = let test = c .before in rank-one-size (test .if2 .taken) (test .before .before .before .pre .1)
