@@ -7,7 +7,7 @@ use Rattle.lists.specs.Numbers.{factorial, series}
 use Rattle.algebra.specs.Cost.{cLine, c, C}
 use Rattle.ranks.proofs.Sizes.{at-most, sheet-size-small}
 use Rattle.sheet_format.specs.declared.Update.{Update}
-use Rattle.sheet_format.specs.declared.Update.the-variants.{Unit, Set, Letter, Product, Sum, Scale}
+use Rattle.sheet_format.specs.declared.Update.the-variants.{Unit, Set, Letter, InverseLetter, Product, Sum, Scale}
 use Rattle.sheet_format.specs.declared.Command.{Command}
 use Rattle.sheet_format.specs.declared.Command.the-variants.{End, Begin, Change, Show}
 use Rattle.machine.specs.Step.{updateCost, cost}
@@ -21,6 +21,7 @@ unfolding updateCost
 update-cost-small m (Unit r) h = omega arith
 update-cost-small m (Set r i v) h = omega arith
 update-cost-small m (Letter r i) h = omega (arith, sheet-size-small m h)
+update-cost-small m (InverseLetter r i) h = omega (arith, sheet-size-small m h)
 update-cost-small m (Product d a b) h = at-most (λ m. C m m) 2027640 5 none m h
 update-cost-small m (Sum d a b) h = omega (arith, sheet-size-small m h)
 update-cost-small m (Scale r v) h = omega (arith, sheet-size-small m h)

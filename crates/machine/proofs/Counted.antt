@@ -1,4 +1,5 @@
--- Obeying a command is a call of the library: the claim `Counted`. Rests on Put, Taken and sheet's InRange.
+-- Obeying a command is a call of the library: the claim `Counted`. Rests on Put, Taken, InverseTaken, and sheet's InRange and
+-- Allowed.
 use mathlib.Core.Path.{_≡_, refl, sym, ap, _∙_}
 use mathlib.Core.Bool.{true}
 use mathlib.Core.List.{List, [], _∷_}
@@ -13,11 +14,13 @@ use Rattle.sheet_format.specs.declared.Command.{Command}
 use Rattle.sheet_format.specs.declared.Command.the-variants.{Change}
 use Rattle.sheet.specs.Check.{inRange}
 use Rattle.sheet.proofs.InRange.{low, within}
+use Rattle.sheet.proofs.Allowed.{in-range, has-inverse}
 use Rattle.machine.specs.Registers.{element, put}
 use Rattle.machine.specs.Step.{updated, obey, updateCost, cost}
 use Rattle.machine.specs.Counted.{Words, Obeying, Counted}
 use Rattle.machine.proofs.Put.{Part, words-element}
 use Rattle.machine.proofs.Taken.{Took, act-taken, scale-taken, sum-taken, product-taken}
+use Rattle.machine.proofs.InverseTaken.{inverse-taken}
 
 module _ (h : Header) (x : List ℕ) (c : Command) where
   part : {r : ℕ} → length x ≡ 2880 → Words x → inRange (h .rank) c ≡ true → r < 4 → Part (h .rank) (element (h .rank) r x) (element (h .rank) r x)
@@ -42,6 +45,10 @@ counted h x old scratch word four each size large = record {
       obeying h x c r
       (act-taken (low (h .rank) c e) (h .q) (i ∷ []) word (record { low = w .1; high = w .2 }, tt) (omega arith) (part h x c four each e (w .0)) refl)
       (omega arith) refl;
+  inverse-letter = λ r i a. let c = Change (U.InverseLetter r i) in let e = in-range h c a in let w = within (h .rank) c e refl in
+      obeying h x c r
+      (inverse-taken (low (h .rank) c e) (h .q) (has-inverse h a refl) i (record { low = w .1; high = w .2 }) (part h x c four each e (w .0)) refl)
+      refl refl;
   product = λ d a b e. let c = Change (U.Product d a b) in let w = within (h .rank) c e refl in
       obeying h x c d
       (product-taken (low (h .rank) c e) old size (part h x c four each e (w .1)) (part h x c four each e (w .2)) (h .q) scratch word (omega arith) refl)

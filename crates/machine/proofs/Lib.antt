@@ -1,5 +1,7 @@
 pub mod Put
 mod Unit
 mod Taken
+mod InverseTaken
+mod NegatedLetter
 pub mod Costs
 pub mod Counted

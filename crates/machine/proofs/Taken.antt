@@ -30,7 +30,7 @@ pub record Took (a : Answer) (last new : List ℕ) (n : ℕ) : Type 0 where
   pub counts : a .count ≡ n
 
 -- `result` of what is lent
-took : {A : Type 0} {o : Outcome Answer A} {a : Answer} {last : A} {new : List ℕ} {n : ℕ} (result : A → List ℕ)
+pub took : {A : Type 0} {o : Outcome Answer A} {a : Answer} {last : A} {new : List ℕ} {n : ℕ} (result : A → List ℕ)
     → o ≡ record { answer = a; lent = last } → Taken (o .answer) → result (o .lent) ≡ new → o .answer .count ≡ n → Took a (result last) new n
 took result e t w c = record {
   taken = sym (ap (λ o. o .answer .verdict) e) ∙ t;

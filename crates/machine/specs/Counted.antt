@@ -10,17 +10,18 @@ use mathlib.Core.Bool.{true}
 use mathlib.Core.List.{List, [], _∷_}
 use Prim.Native.Nat.{ℕ, suc, _^_, _<_}
 use lib.ListN.{length}
+use lib.IntN.{pos, negℤ}
 use Rattle.lists.specs.Lists.{All}
 use Rattle.lists.specs.Numbers.{factorial}
 use Rattle.refusals.specs.declared.Answer.{Answer}
-use Rattle.element_calls.specs.Calls.{sumCall, scaleCall, actWordCall, productCall}
+use Rattle.element_calls.specs.Calls.{sumCall, scaleCall, actWordCall, actSignedWordCall, productCall}
 use Rattle.element_calls.specs.Claims.{Taken}
 use Rattle.sheet_format.specs.declared.Header.{Header}
-use Rattle.sheet_format.specs.declared.Update.the-variants.{Unit, Set, Letter, Product, Sum, Scale}
+use Rattle.sheet_format.specs.declared.Update.the-variants.{Unit, Set, Letter, InverseLetter, Product, Sum, Scale}
 use Rattle.sheet_format.specs.declared.Query.{Query}
 use Rattle.sheet_format.specs.declared.Command.{Command}
 use Rattle.sheet_format.specs.declared.Command.the-variants.{End, Begin, Change, Show}
-use Rattle.sheet.specs.Check.{inRange}
+use Rattle.sheet.specs.Check.{inRange, mayRun}
 use Rattle.machine.specs.Registers.{element, put}
 use Rattle.machine.specs.Step.{obey, cost}
 
@@ -35,6 +36,8 @@ pub record Obeying (h : Header) (x : List ℕ) (c : Command) (a : Answer) (y : L
 pub record Counts (h : Header) (x old scratch : List ℕ) : Type 0 where
   pub letter : (r i : ℕ) → let c = Change (Letter r i) in inRange (h .rank) c ≡ true
       → let o = actWordCall (h .rank) (h .q) (i ∷ []) (element (h .rank) r x) in Obeying h x c (o .answer) (put r (o .lent) x)
+  pub inverse-letter : (r i : ℕ) → let c = Change (InverseLetter r i) in mayRun h c ≡ true
+      → let o = actSignedWordCall (h .rank) (h .q) (negℤ (pos i) ∷ []) (element (h .rank) r x) in Obeying h x c (o .answer) (put r (o .lent) x)
   pub product : (d a b : ℕ) → let c = Change (Product d a b) in inRange (h .rank) c ≡ true
       → let o = productCall (h .rank) (h .q) (element (h .rank) a x) (element (h .rank) b x) old scratch in Obeying h x c (o .answer) (put d (o .lent .result) x)
   pub sum : (d a b : ℕ) → let c = Change (Sum d a b) in inRange (h .rank) c ≡ true

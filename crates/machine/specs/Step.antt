@@ -6,8 +6,8 @@
 --   cost m c             the same for any command
 --   costCall m c         the same, and 0 where the command is not in range
 --   stepReport a         number, place and count of an answer: document 01 has no number for a command that is not obeyed
---   stepCall h c x       one command on lent registers: the answer with the count, and the registers; nothing is done where an operand is out of range
---                        or the registers are not 4 × 720 words
+--   stepCall h c x       one command on lent registers: the answer with the count, and the registers; nothing is done where an operand is out of range,
+--                        where an inverse letter stands and q has no inverse, or where the registers are not 4 × 720 words
 use mathlib.Core.Bool.{cond, _&&_}
 use mathlib.Core.List.{List, [], _∷_}
 use Prim.Native.Nat.{ℕ, suc, _*_, _/_}
@@ -20,13 +20,14 @@ use Rattle.refusals.specs.declared.Verdict.the-variants.{Accepted}
 use Rattle.algebra.specs.Element.{plus, scale, unit}
 use Rattle.algebra.specs.Product.{act, times}
 use Rattle.algebra.specs.Cost.{C}
-use Rattle.element_calls.specs.Coefficients.{ring, parametersOf}
+use Rattle.signed_words.specs.InverseLetter.{inverseLetter}
+use Rattle.element_calls.specs.Coefficients.{ring, parametersOf, inverseParameters}
 use Rattle.sheet_format.specs.declared.Header.{Header}
 use Rattle.sheet_format.specs.declared.Update.{Update}
-use Rattle.sheet_format.specs.declared.Update.the-variants.{Unit, Set, Letter, Product, Sum, Scale}
+use Rattle.sheet_format.specs.declared.Update.the-variants.{Unit, Set, Letter, InverseLetter, Product, Sum, Scale}
 use Rattle.sheet_format.specs.declared.Command.{Command}
 use Rattle.sheet_format.specs.declared.Command.the-variants.{End, Begin, Change, Show}
-use Rattle.sheet.specs.Check.{inRange}
+use Rattle.sheet.specs.Check.{inRange, mayRun}
 use Rattle.machine.specs.Registers.{element, put, zeros}
 use Rattle.machine.specs.declared.Stepped.{Stepped}
 use Rattle.machine.specs.declared.Stepped.the-variants.{Obeyed, NotObeyed}
@@ -35,6 +36,10 @@ unfoldable pub updated : Header → Update → List ℕ → List ℕ
 updated h (Unit r) x = put r (unit ℕ words (h .rank)) x
 updated h (Set r i v) x = put r (set (element (h .rank) r x) i v) x
 updated h (Letter r i) x = let p = parametersOf (h .q) in put r (act ℕ (ring p) (p .q) (p .r) (h .rank) (i ∷ []) (element (h .rank) r x)) x
+updated h (InverseLetter r i) x =
+    let p = parametersOf (h .q) in
+    let p' = inverseParameters (h .q) in
+    put r (inverseLetter ℕ (ring p) (p .q) (p .r) (p' .q) (p' .r) (h .rank) i (element (h .rank) r x)) x
 updated h (Product d a b) x =
     let p = parametersOf (h .q) in
     put d (times ℕ (ring p) (p .q) (p .r) (h .rank) (h .rank) (element (h .rank) a x) (element (h .rank) b x)) x
@@ -51,6 +56,7 @@ unfoldable pub updateCost : ℕ → Update → ℕ
 updateCost m (Unit r) = 0
 updateCost m (Set r i v) = 0
 updateCost m (Letter r i) = 3 * factorial (suc m) / 2
+updateCost m (InverseLetter r i) = 3 * factorial (suc m) / 2
 updateCost m (Product d a b) = C m m
 updateCost m (Sum d a b) = factorial (suc m)
 updateCost m (Scale r v) = factorial (suc m)
@@ -70,6 +76,6 @@ stepReport NotObeyed = reported Accepted 0
 
 unfoldable pub stepCall : Header → Command → List ℕ → Outcome Stepped (List ℕ)
 stepCall h c x =
-    cond (inRange (h .rank) c && same (length x) 2880)
+    cond (mayRun h c && same (length x) 2880)
     (record { answer = Obeyed (cost (h .rank) c); lent = obey h c x })
     (record { answer = NotObeyed; lent = x })

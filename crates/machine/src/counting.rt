@@ -18,6 +18,7 @@ fn update_cost(m: usize, update: Update) -> u64
         Update::Unit(_) => 0,
         Update::Set(_, _, _) => 0,
         Update::Letter(_, _) => letter,
+        Update::InverseLetter(_, _) => letter,
         Update::Product(_, _, _) => product,
         Update::Sum(_, _, _) => size,
         Update::Scale(_, _) => size,

@@ -4,7 +4,7 @@ ghost use mathlib.Core.Path.{_≡_};
 ghost use mathlib.Core.Bool.{true};
 ghost use lib.ListN.{length};
 ghost use Rattle.sheet_format.specs.declared.Command.the-variants.{Change};
-ghost use Rattle.sheet.specs.Check.{inRange};
+ghost use Rattle.sheet.specs.Check.{mayRun};
 ghost use Rattle.machine.specs.Steps.{Registers};
 ghost use Rattle.machine.specs.Step.{updated, obey, stepCall};
 use sheet_format::Command;
@@ -20,13 +20,14 @@ pub use counting::cost;
 pub enum Stepped {
     // Obeyed, with the count of its ring operations.
     Obeyed(u64),
-    // Nothing done: an operand out of range, or registers of another size than 4 x 720 words.
+    // Nothing done: an operand out of range, an inverse letter while q has no inverse, or registers of another size than 4 x 720
+    // words.
     NotObeyed,
 }
 
-// An update whose operands are in range.
+// An update that may run.
 fn update(x: &mut [u64], header: Header, size: usize, update: Update)
-    requires { ⌜ Registers (header .rank) size (now x) × (inRange (header .rank) (Change update) ≡ true) ⌝ }
+    requires { ⌜ Registers (header .rank) size (now x) × (mayRun header (Change update) ≡ true) ⌝ }
     ensures { λ _. ⌜ now (x .exit) ≡ updated header update (now (x .entry)) ⌝ }
 {
     let m = header.rank;
@@ -35,15 +36,16 @@ fn update(x: &mut [u64], header: Header, size: usize, update: Update)
         Update::Unit(r) => registers::make_unit(x, m, size, r),
         Update::Set(r, i, v) => registers::set_coefficient(x, m, size, r, i, v),
         Update::Letter(r, i) => registers::letter(x, m, size, q, r, i),
+        Update::InverseLetter(r, i) => registers::inverse_letter(x, m, size, q, r, i),
         Update::Product(d, a, b) => registers::product(x, m, size, q, d, a, b),
         Update::Sum(d, a, b) => registers::sum(x, m, size, d, a, b),
         Update::Scale(r, v) => registers::multiple(x, m, size, r, v),
     }
 }
 
-// A command whose operands are in range.
+// A command that may run.
 fn obey(x: &mut [u64], header: Header, command: Command)
-    requires { ⌜ (length (now x) ≡ 2880) × (inRange (header .rank) command ≡ true) ⌝ }
+    requires { ⌜ (length (now x) ≡ 2880) × (mayRun header command ≡ true) ⌝ }
     ensures { λ _. ⌜ now (x .exit) ≡ obey header command (now (x .entry)) ⌝ }
 {
     let size = ranks::size(header.rank);
@@ -64,7 +66,7 @@ pub fn step(x: &mut [u64], header: Header, command: Command) -> Stepped
     if x.len() != 2880 {
         return Stepped::NotObeyed;
     }
-    if !sheet::in_range(header.rank, command) {
+    if !sheet::may_run(header, command) {
         return Stepped::NotObeyed;
     }
     obey(x, header, command);

@@ -2,13 +2,16 @@
 // of size = M words, stands at the front of a register.
 
 ghost use mathlib.Core.Path.{_≡_};
+ghost use mathlib.Core.Bool.{true};
 ghost use mathlib.Core.List.{[], _∷_};
 ghost use Prim.Native.Nat.{ℕ, _<_};
 ghost use lib.ListN.{length, set};
-ghost use Rattle.ring.specs.Modular.{words};
+ghost use Rattle.ring.specs.Modular.{wordModulus, words};
+ghost use Rattle.inverses.specs.Inverses.{hasInverse};
 ghost use Rattle.algebra.specs.Element.{plus, scale, unit};
 ghost use Rattle.algebra.specs.Product.{act, times};
-ghost use Rattle.element_calls.specs.Coefficients.{ring, parametersOf};
+ghost use Rattle.signed_words.specs.InverseLetter.{inverseLetter};
+ghost use Rattle.element_calls.specs.Coefficients.{ring, parametersOf, inverseParameters};
 ghost use Rattle.machine.specs.Registers.{register, element, put, zeros};
 ghost use Rattle.machine.specs.Steps.{Registers, RegisterLetterPre, BinaryPre};
 
@@ -63,6 +66,16 @@ pub(crate) fn letter(x: &mut [u64], m: usize, size: usize, q: u64, r: usize, i: 
     let at = 720 * r;
     let word = [i];
     hecke::act_word(m, q, &word, &mut x[at..at + size]);
+}
+
+pub(crate) fn inverse_letter(x: &mut [u64], m: usize, size: usize, q: u64, r: usize, i: u8)
+    requires { ⌜ RegisterLetterPre m size r i (now x) × (hasInverse wordModulus q ≡ true) ⌝ }
+    ensures { λ _. ⌜ (let p = parametersOf q in let p' = inverseParameters q in
+        now (x .exit) ≡ put r (inverseLetter ℕ (ring p) (p .q) (p .r) (p' .q) (p' .r) m i (element m r (now (x .entry)))) (now (x .entry))) ⌝ }
+{
+    let at = 720 * r;
+    let word = [-(i as i8)];
+    hecke::act_signed_word(m, q, &word, &mut x[at..at + size]);
 }
 
 pub(crate) fn product(x: &mut [u64], m: usize, size: usize, q: u64, d: usize, a: usize, b: usize)

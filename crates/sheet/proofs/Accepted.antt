@@ -1,4 +1,5 @@
--- What acceptance says of a sheet: its size, and at each offset that a run reaches a good command, the end as the last byte. Rests on Cases.
+-- What acceptance says of a sheet: its size, and at each offset that a run reaches a good command, the end as the last byte. Rests on Allowed
+-- and Cases.
 use mathlib.Core.Path.{_≡_, refl, sym, _∙_}
 use mathlib.Core.Logic.{_⊎_, inl, inr, ⊎-elim}
 use mathlib.Core.Bool.{true, false}
@@ -17,9 +18,10 @@ use Rattle.sheet_format.specs.declared.Command.{Command}
 use Rattle.sheet_format.specs.declared.Command.the-variants.{End}
 use Rattle.sheet_format.specs.declared.Decoded.the-variants.{Found}
 use Rattle.sheet_format.proofs.Offsets.{found-within}
-use Rattle.sheet.specs.Check.{isEnd, inRange, checkSheet}
+use Rattle.sheet.specs.Check.{isEnd, mayRun, checkSheet}
 use Rattle.sheet.proofs.CheckFrom.{checkFrom, from-start, stands}
-use Rattle.sheet.proofs.Cases.{Kind, nothing, unknown, short, disordered, outside, end, on, kind?, order-fails, range-fails, taken-on, taken-end}
+use Rattle.sheet.proofs.Allowed.{may-run}
+use Rattle.sheet.proofs.Cases.{Kind, nothing, unknown, short, disordered, outside, lacking, end, on, kind?, order-fails, range-fails, inverse-fails, taken-on, taken-end}
 
 refused : {why : Refusal} → Refused why ≡ Accepted → ⊥
 refused e = let z : _≡_ {A = ℕ} 0 1 = cc in omega arith
@@ -30,7 +32,7 @@ pub record Next (s : List ℕ) (at : ℕ) : Type 0 where
   pub command : Command
   pub after : ℕ
   pub stands : decode s at ≡ Found command after
-  pub range : inRange (header s .rank) command ≡ true
+  pub runs : mayRun (header s) command ≡ true
   pub rest : ((isEnd command ≡ true) × (after ≡ length s)) ⊎ ((isEnd command ≡ false) × (checkFrom s after ≡ Accepted))
 
 pub accepted-next : (s : List ℕ) (at : ℕ) → checkFrom s at ≡ Accepted → Next s at
@@ -42,11 +44,18 @@ accepted-next s at a = go (kind? s at)
     go (short d) = absurd (refused (sym (stands s at d) ∙ a))
     go (disordered c after d o) = absurd (refused (sym (order-fails s at d o) ∙ a))
     go (outside c after d o r) = absurd (refused (sym (range-fails s at d o r) ∙ a))
+    go (lacking c after d o r v) = absurd (refused (sym (inverse-fails s at d o r v) ∙ a))
     go (end after t) =
         let past = less-false after (length s) (accepts-unless (less after (length s)) (Ending after) (sym (taken-end s at t refl) ∙ a)) in
         let w = found-within s at (t .stands) in
-        record { command = End; after = after; stands = t .stands; range = t .range; rest = inl (refl, omega arith) }
-    go (on c after t e) = record { command = c; after = after; stands = t .stands; range = t .range; rest = inr (e, sym (taken-on s at t e) ∙ a) }
+        record { command = End; after = after; stands = t .stands; runs = may-run (header s) End (t .range) (t .inverse); rest = inl (refl, omega arith) }
+    go (on c after t e) = record {
+      command = c;
+      after = after;
+      stands = t .stands;
+      runs = may-run (header s) c (t .range) (t .inverse);
+      rest = inr (e, sym (taken-on s at t e) ∙ a);
+    }
 
 -- ---- a whole sheet
 

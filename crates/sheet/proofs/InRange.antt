@@ -37,6 +37,8 @@ update m (U.Unit r) e = omega (arith, less-true _ _ e)
 update m (U.Set r i v) e = let f = and-eq-true-iff _ _ .0 e in (omega (arith, less-true _ _ (f .0)), omega (arith, less-true _ _ (f .1)))
 update m (U.Letter r i) e = let f = and-eq-true-iff _ _ .0 e in let g = letter (f .1) in
     (omega (arith, less-true _ _ (f .0)), omega arith, omega arith)
+update m (U.InverseLetter r i) e = let f = and-eq-true-iff _ _ .0 e in let g = letter (f .1) in
+    (omega (arith, less-true _ _ (f .0)), omega arith, omega arith)
 update m (U.Product d a b) e = omega (arith, three e)
 update m (U.Sum d a b) e = omega (arith, three e)
 update m (U.Scale r v) e = omega (arith, less-true _ _ e)
@@ -76,6 +78,7 @@ unfolding updateInRange isRegister
 update-in m (U.Unit r) h = less-yes h
 update-in m (U.Set r i v) h = rw (less-yes (h .0), less-yes (h .1)) refl
 update-in m (U.Letter r i) h = rw (less-yes (h .0), same-no {x = i} {a = 0} (λ e. omega arith), less-no (h .2)) refl
+update-in m (U.InverseLetter r i) h = rw (less-yes (h .0), same-no {x = i} {a = 0} (λ e. omega arith), less-no (h .2)) refl
 update-in m (U.Product d a b) h = rw (less-yes (h .0), less-yes (h .1), less-yes (h .2)) refl
 update-in m (U.Sum d a b) h = rw (less-yes (h .0), less-yes (h .1), less-yes (h .2)) refl
 update-in m (U.Scale r v) h = less-yes h

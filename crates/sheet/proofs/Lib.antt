@@ -1,6 +1,8 @@
 mod Tests
 mod InOrder
 pub mod InRange
+mod Parity
+pub mod Allowed
 pub mod Limit
 pub mod CheckFrom
 pub mod Cases

@@ -1,4 +1,4 @@
--- A sheet is refused exactly where document 01's table says so, with a place of at most 4,096. Rests on Cases, Begun and Reached.
+-- A sheet is refused exactly where document 01's table says so, with a place of at most 4,096. Rests on Cases, Parity, Begun and Reached.
 use mathlib.Core.Path.{_≡_, refl, subst, _∙_}
 use mathlib.Core.Logic.{inl, inr, ⊎-elim}
 use mathlib.Core.List.{List, []}
@@ -10,18 +10,20 @@ use Rattle.lists.specs.Lists.{less}
 use Rattle.lists.proofs.Test.{LessView, lt, ge, less?, less-yes, less-no}
 use Rattle.refusals.specs.Refusals.{refusalPlace, unless}
 use Rattle.refusals.specs.declared.Refusal.{Refusal}
-use Rattle.refusals.specs.declared.Refusal.the-variants.{Rank, Size, Scratch, Word, Letter, Length, Image, Entry, Buffer, Bytes, Unknown, CutOff, Order, Range, Ending}
+use Rattle.refusals.specs.declared.Refusal.the-variants.{Rank, Size, Scratch, Word, Letter, Length, Image, Entry, Buffer, Bytes, Unknown, CutOff, Order, Range, Ending, NoInverse}
 use Rattle.refusals.specs.declared.Verdict.{Verdict}
 use Rattle.refusals.specs.declared.Verdict.the-variants.{Accepted, Refused}
 use Rattle.refusals.proofs.Verdicts.{Near}
 use Rattle.refusals.proofs.Ended.{refuses-verdict}
 use Rattle.sheet_format.specs.declared.Command.the-variants.{End}
+use Rattle.sheet_format.specs.Format.{header}
 use Rattle.sheet_format.proofs.Offsets.{found-within, past-end, nothing-past}
 use Rattle.sheet.specs.Check.{checkSheet}
 use Rattle.sheet.specs.Table.{Good, Reached, Ended, Says, Passes, Exactly}
 use Rattle.sheet.proofs.CheckFrom.{checkFrom, stands}
-use Rattle.sheet.proofs.Cases.{Kind, nothing, unknown, short, disordered, outside, end, on, kind?, order-fails, range-fails, taken-on, taken-end}
-use Rattle.sheet.proofs.Begun.{ends-not, good, out-of-order, out-of-range, order-refused, range-refused}
+use Rattle.sheet.proofs.Cases.{Kind, nothing, unknown, short, disordered, outside, lacking, end, on, kind?, order-fails, range-fails, inverse-fails, taken-on, taken-end}
+use Rattle.sheet.proofs.Parity.{lacks}
+use Rattle.sheet.proofs.Begun.{ends-not, good, out-of-order, out-of-range, uninvertible, order-refused, range-refused, inverse-refused}
 use Rattle.sheet.proofs.Accepted.{sized, missized, size?}
 use Rattle.sheet.proofs.Reached.{reached, reached-on, end-checked}
 
@@ -54,6 +56,7 @@ found-from (suc k) s at h m r = go (kind? s at) (found-from k s)
     go (short d) ih = rw (stands s at d) ((r, d), place)
     go (disordered c after d o) ih = rw (order-fails s at d o) ((r, out-of-order d o), place)
     go (outside c after d o x) ih = rw (range-fails s at d o x) ((r, out-of-range d o x (reached r .1)), place)
+    go (lacking c after d o x v) ih = rw (inverse-fails s at d o x v) ((r, uninvertible c d o x (lacks (header s .q) c v)), place)
     go (end after t) ih = ended after (good t) (taken-end s at t refl) (less? after (length s))
     go (on c after t e) ih = let w = found-within s at (t .stands) in
         rw (taken-on s at t e) (ih after (omega arith) (w .1) (reached-on (good t) (ends-not c e) r))
@@ -81,6 +84,7 @@ says s (Unknown at) h = reached (h .0) .0 ∙ stands s at (h .1)
 says s (CutOff at) h = reached (h .0) .0 ∙ stands s at (h .1)
 says s (Order at) h = reached (h .0) .0 ∙ order-refused s at (h .1)
 says s (Range at) h = reached (h .0) .0 ∙ range-refused s at (h .1)
+says s (NoInverse at) h = let way = reached (h .0) in way .0 ∙ inverse-refused s at (h .1) (way .1)
 says s (Ending at) (inl h) = reached (h .0) .0 ∙ stands s at (past-end s at (omega (arith, h .1)))
 says s (Ending at) (inr h) = end-checked (h .0) ∙ rw (less-yes (h .1)) refl
 

@@ -27,6 +27,7 @@ abbrev pub UpdateBounds : ℕ → Update → Type 0
 UpdateBounds m (U.Unit r) = r < 4
 UpdateBounds m (U.Set r i v) = (r < 4) × (i < factorial (suc m))
 UpdateBounds m (U.Letter r i) = (r < 4) × (1 ≤ i) × (i ≤ m)
+UpdateBounds m (U.InverseLetter r i) = (r < 4) × (1 ≤ i) × (i ≤ m)
 UpdateBounds m (U.Product d a b) = (d < 4) × (a < 4) × (b < 4)
 UpdateBounds m (U.Sum d a b) = (d < 4) × (a < 4) × (b < 4)
 UpdateBounds m (U.Scale r v) = r < 4

@@ -1,11 +1,13 @@
 -- When a sheet is refused, as document 01's table says it, without the order in which a check goes and without its tests.
 --
---   Good s at c after         the command c stands at an offset of the sheet s, in order and within its bounds, and the offset after it
+--   Good s at c after         the command c stands at an offset of the sheet s, in order and within its bounds, and the offset after it; q is odd
+--                             if c multiplies by an inverse generator
 --   Link                      a command, and the offset after it
 --   Leads s at ls to          good commands, none of them the end, lead from one offset to another
 --   Reached s at              in a sheet of 1 to 4,096 bytes, they lead there from offset 0
 --   OutOfOrder s at           a command stands at an offset, out of order
 --   OutOfRange s at           a command stands at an offset, in order and with an operand out of range
+--   Uninvertible s at         an inverse letter stands at an offset, in order and within its bounds, and q is even
 --   Ended s after             a good end command is reached, and the offset after it
 --   Says s why                the table's row for a refusal
 --   Passes s                  an end command is reached, and nothing stands after it
@@ -14,15 +16,16 @@
 use mathlib.Core.Path.{_≡_}
 use mathlib.Core.List.{List, [], _∷_}
 use mathlib.Core.Logic.{_⊎_, _≢_}
-use Prim.Native.Nat.{ℕ, _≤_, _<_}
+use Prim.Native.Nat.{ℕ, _%_, _≤_, _<_}
 use lib.ListN.{length}
 use Rattle.refusals.specs.Refusals.{verdictReport, Refuses}
 use Rattle.refusals.specs.declared.Refusal.{Refusal}
-use Rattle.refusals.specs.declared.Refusal.the-variants.{Rank, Size, Scratch, Word, Letter, Length, Image, Entry, Buffer, Bytes, Unknown, CutOff, Order, Range, Ending}
+use Rattle.refusals.specs.declared.Refusal.the-variants.{Rank, Size, Scratch, Word, Letter, Length, Image, Entry, Buffer, Bytes, Unknown, CutOff, Order, Range, Ending, NoInverse}
 use Rattle.refusals.specs.declared.Verdict.the-variants.{Accepted, Refused}
 use Rattle.sheet_format.specs.Format.{decode, header}
+use Rattle.sheet_format.specs.declared.Update.the-variants.{InverseLetter}
 use Rattle.sheet_format.specs.declared.Command.{Command}
-use Rattle.sheet_format.specs.declared.Command.the-variants.{End}
+use Rattle.sheet_format.specs.declared.Command.the-variants.{End, Change}
 use Rattle.sheet_format.specs.declared.Decoded.the-variants.{Found, NoCommand, Short}
 use Rattle.sheet.specs.Bounds.{Ordered, Bounds}
 use Rattle.sheet.specs.Check.{checkSheet}
@@ -31,6 +34,7 @@ pub record Good (s : List ℕ) (at : ℕ) (c : Command) (after : ℕ) : Type 0 w
   pub stands : decode s at ≡ Found c after
   pub order : Ordered at c
   pub range : Bounds (header s .rank) c
+  pub inverse : (r i : ℕ) → c ≡ Change (InverseLetter r i) → header s .q % 2 ≡ 1
 
 pub record Link : Type 0 where
   pub command : Command
@@ -57,6 +61,15 @@ pub record OutOfRange (s : List ℕ) (at : ℕ) : Type 0 where
   pub order : Ordered at (link .command)
   pub range : Bounds (header s .rank) (link .command) → ⊥
 
+pub record Uninvertible (s : List ℕ) (at : ℕ) : Type 0 where
+  pub register : ℕ
+  pub letter : ℕ
+  pub after : ℕ
+  pub stands : decode s at ≡ Found (Change (InverseLetter register letter)) after
+  pub order : Ordered at (Change (InverseLetter register letter))
+  pub range : Bounds (header s .rank) (Change (InverseLetter register letter))
+  pub even : header s .q % 2 ≡ 0
+
 pub record Ended (s : List ℕ) (after : ℕ) : Type 0 where
   pub at : ℕ
   pub reached : Reached s at
@@ -68,6 +81,7 @@ Says s (Unknown at) = Reached s at × (decode s at ≡ NoCommand)
 Says s (CutOff at) = Reached s at × (decode s at ≡ Short)
 Says s (Order at) = Reached s at × OutOfOrder s at
 Says s (Range at) = Reached s at × OutOfRange s at
+Says s (NoInverse at) = Reached s at × Uninvertible s at
 Says s (Ending at) = (Reached s at × (at ≡ length s)) ⊎ (Ended s at × (at < length s))
 -- no sheet is refused for what another table row judges
 Says s Rank = ⊥

@@ -1,6 +1,7 @@
 -- A `Reader` owns what its fields own, and the parameters of the functions that take one. Rests on Walks.
 --
 --   of-none, of-number, of-fields, of-reader   the parameters: none, a number, a sheet with an offset, a `Reader` before others
+--   of-sheet, of-header                        a sheet before others, a `Header` before others
 --   reader-typed, decoded-typed                the machine values of a `Reader` and of a `Decoded` fit their MIR types
 --   makes, taken, moves                        a `Reader` is put together, is taken apart, and gets another offset
 use mathlib.Core.Path.{_≡_}
@@ -17,15 +18,17 @@ use contract.Lifetimes.{Lfts}
 use types.Kit.{Given, ‵, given, _$_, _∵_, !, qed, use1, learn, done}
 use denote.RattleType.{RattleType}
 use denote.Laws.{Typed, Is}
-use denote.Builtin.{usize}
+use denote.Builtin.{u8, usize}
 use denote.Ref.{NamedLft}
 use denote.Signature.{namedLft}
 use denote.Enum.Laws as EL
-use denote.Struct.Field.{Field, rows, usize-field}
+use denote.Struct.Field.{Field, rows, usize-field, shr-slice-field}
 use denote.Struct.Laws as LL
 use denote.Struct.Rest.{all-own, own-open, own-shut, own-put}
 use Rattle.sheet_format.specs.declared.Reader.{Reader}
 use Rattle.sheet_format.specs.declared.Decoded.{Decoded}
+use Rattle.sheet_format.proofs.Header as Hd
+use Rattle.sheet_format.proofs.Header.Laws as Hd′
 use Rattle.sheet_format.proofs.Reader as T
 use Rattle.sheet_format.proofs.Reader.Laws as T′
 use Rattle.sheet_format.proofs.Decoded as D
@@ -40,6 +43,13 @@ of-none = of-parts [] tt
 
 abbrev pub of-number : Spelling (usize ∷ [])
 of-number = of-parts (usize-field ∷ []) (LL.usize-laws, tt)
+
+abbrev pub of-header : {Rs : List RattleType} → Spelling Rs → Spelling (Hd.the-row ∷ Rs)
+of-header ps = record {
+  spell = (LL.vals Hd.the-type Hd′.the-laws, ps .spell);
+  tell = (LL.tells Hd.the-type Hd′.the-laws, ps .tell);
+  law = λ 𝓤 H A W. (LL.lawful Hd.the-type Hd′.the-laws 𝓤 H A W, ps .law 𝓤 H A W);
+}
 
 module _ (κs : Lfts 1) where
   abbrev α : NamedLft
@@ -60,6 +70,16 @@ module _ (κs : Lfts 1) where
     spell = (LL.vals (T.the-type α) (T′.the-laws α), ps .spell);
     tell = (LL.tells (T.the-type α) (T′.the-laws α), ps .tell);
     law = λ 𝓤 H A W. (LL.lawful (T.the-type α) (T′.the-laws α) 𝓤 H A W, ps .law 𝓤 H A W);
+  }
+
+  abbrev slice-laws : LL.FLaws (shr-slice-field α u8 tt)
+  slice-laws = LL.shr-slice-laws α u8 tt
+
+  abbrev pub of-sheet : {Rs : List RattleType} → Spelling Rs → Spelling (shr-slice-field α u8 tt .row ∷ Rs)
+  of-sheet ps = record {
+    spell = ((λ s. slice-laws .val s ∷ []), ps .spell);
+    tell = (slice-laws .tells, ps .tell);
+    law = λ 𝓤 H A W. (slice-laws .lawful 𝓤 H A W, ps .law 𝓤 H A W);
   }
 
 module _ {M : Type 1} (𝓤 : URA M) (H : Heap 𝓤) (A : Atoms 𝓤) (W : Given 𝓤 H A) where

@@ -14,7 +14,7 @@ use Rattle.lists.specs.Lists.{same}
 use Rattle.lists.proofs.Test.{SameView, is, isnt, same?}
 use Rattle.sheet_format.specs.Format.{byte, number, row, none as none-begun}
 use Rattle.sheet_format.specs.Written.{little, written, code, Writable}
-use Rattle.sheet_format.specs.declared.Update.the-variants.{Unit, Set, Letter, Product, Sum, Scale}
+use Rattle.sheet_format.specs.declared.Update.the-variants.{Unit, Set, Letter, InverseLetter, Product, Sum, Scale}
 use Rattle.sheet_format.specs.declared.Query.the-variants.{Register, Pairing, Equality}
 use Rattle.sheet_format.specs.declared.Command.{Command}
 use Rattle.sheet_format.specs.declared.Command.the-variants.{End, Begin, Change, Show}
@@ -38,6 +38,7 @@ parts (Change (Letter r i)) = refl
 parts (Change (Product d a b)) = refl
 parts (Change (Sum d a b)) = refl
 parts (Change (Scale r v)) = refl
+parts (Change (InverseLetter r i)) = refl
 parts (Show (Register r)) = refl
 parts (Show (Pairing a b)) = refl
 parts (Show (Equality a b)) = refl
@@ -55,6 +56,7 @@ row-written (Change (Letter r i)) rest w = refl
 row-written (Change (Product d a b)) rest w = refl
 row-written (Change (Sum d a b)) rest w = refl
 row-written (Change (Scale r v)) rest w = λ j. Known (Change (Scale r (after-one r 8 v rest (w .1) j))) 9
+row-written (Change (InverseLetter r i)) rest w = refl
 row-written (Show (Register r)) rest w = refl
 row-written (Show (Pairing a b)) rest w = refl
 row-written (Show (Equality a b)) rest w = refl
@@ -75,6 +77,7 @@ read-off (Change (Letter r i)) x = off (Change (Letter (byte x 0) (byte x 1))) r
 read-off (Change (Product d a b)) x = off (Change (Product (byte x 0) (byte x 1) (byte x 2))) refl refl (three-bytes x)
 read-off (Change (Sum d a b)) x = off (Change (Sum (byte x 0) (byte x 1) (byte x 2))) refl refl (three-bytes x)
 read-off (Change (Scale r v)) x = off (Change (Scale (byte x 0) (number x 1 8))) refl refl (byte-and-word x)
+read-off (Change (InverseLetter r i)) x = off (Change (InverseLetter (byte x 0) (byte x 1))) refl refl (two-bytes x)
 read-off (Show (Register r)) x = off (Show (Register (byte x 0))) refl refl (one-byte x)
 read-off (Show (Pairing a b)) x = off (Show (Pairing (byte x 0) (byte x 1))) refl refl (two-bytes x)
 read-off (Show (Equality a b)) x = off (Show (Equality (byte x 0) (byte x 1))) refl refl (two-bytes x)
@@ -97,5 +100,6 @@ unfolding row byte written little
 code? k x =
     or-else End (λ n0. or-else (Begin none-begun) (λ n1. or-else (Change (Unit 0)) (λ n2. or-else (Change (Set 0 0 0)) (λ n3.
     or-else (Change (Letter 0 0)) (λ n4. or-else (Change (Product 0 0 0)) (λ n5. or-else (Change (Sum 0 0 0)) (λ n6. or-else (Change (Scale 0 0)) (λ n7.
-    or-else (Show (Register 0)) (λ n8. or-else (Show (Pairing 0 0)) (λ n9. or-else (Show (Equality 0 0)) (λ n10.
-    none (sym (other _ _ _ _ _ _ _ _ _ _ _ _ k (((((((((((tt, n0), n1), n2), n3), n4), n5), n6), n7), n8), n9), n10))))))))))))))
+    or-else (Change (InverseLetter 0 0)) (λ n8.
+    or-else (Show (Register 0)) (λ n9. or-else (Show (Pairing 0 0)) (λ n10. or-else (Show (Equality 0 0)) (λ n11.
+    none (sym (other _ _ _ _ _ _ _ _ _ _ _ _ _ k ((((((((((((tt, n0), n1), n2), n3), n4), n5), n6), n7), n8), n9), n10), n11)))))))))))))))

@@ -14,7 +14,7 @@ use Prim.Native.Nat.{ℕ, zero, suc, _+_, _*_}
 use lib.ListN.{length, getD, drop}
 use Rattle.lists.specs.Lists.{same, less}
 use Rattle.sheet_format.specs.declared.Header.{Header}
-use Rattle.sheet_format.specs.declared.Update.the-variants.{Unit, Set, Letter, Product, Sum, Scale}
+use Rattle.sheet_format.specs.declared.Update.the-variants.{Unit, Set, Letter, InverseLetter, Product, Sum, Scale}
 use Rattle.sheet_format.specs.declared.Query.the-variants.{Register, Pairing, Equality}
 use Rattle.sheet_format.specs.declared.Command.{Command}
 use Rattle.sheet_format.specs.declared.Command.the-variants.{End, Begin, Change, Show}
@@ -40,10 +40,11 @@ row code x =
     (cond (same code 0x31) (Known (Change (Product (byte x 0) (byte x 1) (byte x 2))) (1 + 1 + 1))
     (cond (same code 0x32) (Known (Change (Sum (byte x 0) (byte x 1) (byte x 2))) (1 + 1 + 1))
     (cond (same code 0x33) (Known (Change (Scale (byte x 0) (number x 1 8))) (1 + 8))
+    (cond (same code 0x34) (Known (Change (InverseLetter (byte x 0) (byte x 1))) (1 + 1))
     (cond (same code 0x40) (Known (Show (Register (byte x 0))) 1)
     (cond (same code 0x41) (Known (Show (Pairing (byte x 0) (byte x 1))) (1 + 1))
     (cond (same code 0x42) (Known (Show (Equality (byte x 0) (byte x 1))) (1 + 1))
-    Unknown))))))))))
+    Unknown)))))))))))
 
 abbrev pub placedRow : ℕ → ℕ → Row → Decoded
 placedRow n at (Known c wide) = cond (less n (at + wide)) Short (Found c (at + wide))

@@ -17,7 +17,7 @@ use lib.ListN.{length, take, drop}
 use Rattle.lists.specs.Lists.{All}
 use Rattle.sheet_format.specs.Format.{byte, decode}
 use Rattle.sheet_format.specs.declared.Update.{Update}
-use Rattle.sheet_format.specs.declared.Update.the-variants.{Unit, Set, Letter, Product, Sum, Scale}
+use Rattle.sheet_format.specs.declared.Update.the-variants.{Unit, Set, Letter, InverseLetter, Product, Sum, Scale}
 use Rattle.sheet_format.specs.declared.Query.{Query}
 use Rattle.sheet_format.specs.declared.Query.the-variants.{Register, Pairing, Equality}
 use Rattle.sheet_format.specs.declared.Command.{Command}
@@ -37,6 +37,7 @@ writtenUpdate (Letter r i) = 0x30 ∷ r ∷ i ∷ []
 writtenUpdate (Product d a b) = 0x31 ∷ d ∷ a ∷ b ∷ []
 writtenUpdate (Sum d a b) = 0x32 ∷ d ∷ a ∷ b ∷ []
 writtenUpdate (Scale r v) = 0x33 ∷ r ∷ little 8 v
+writtenUpdate (InverseLetter r i) = 0x34 ∷ r ∷ i ∷ []
 
 abbrev pub writtenQuery : Query → List ℕ
 writtenQuery (Register r) = 0x40 ∷ r ∷ []
@@ -67,6 +68,7 @@ WritableUpdate (Letter r i) = Bytes (r ∷ i ∷ [])
 WritableUpdate (Product d a b) = Bytes (d ∷ a ∷ b ∷ [])
 WritableUpdate (Sum d a b) = Bytes (d ∷ a ∷ b ∷ [])
 WritableUpdate (Scale r v) = Bytes (r ∷ []) × Fits 8 v
+WritableUpdate (InverseLetter r i) = Bytes (r ∷ i ∷ [])
 
 abbrev pub WritableQuery : Query → Type 0
 WritableQuery (Register r) = Bytes (r ∷ [])

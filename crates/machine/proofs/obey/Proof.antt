@@ -1,8 +1,10 @@
--- Each arm is the definition's line for its kind of command. Rests on Put and sheet's InRange.
+-- Each arm is the definition's line for its kind of command. Rests on Put, and on sheet's InRange
+-- and Allowed.
 use mathlib.Core.Path.{refl, sym, ap, _∙_}
 use borrow.Author.Needs.{needs}
-use Rattle.sheet.specs.Check.{inRange}
+use Rattle.sheet.specs.Check.{mayRun}
 use Rattle.sheet.proofs.InRange.{low}
+use Rattle.sheet.proofs.Allowed.{in-range}
 use Rattle.machine.specs.Step.{obey}
 use Rattle.machine.specs.Steps.{Registers}
 use Rattle.machine.proofs.Put.{registers}
@@ -11,14 +13,15 @@ use Rattle.machine.proofs.obey.Tie as tie
 
 four : (c : tie.After-size) → let start = c .before .before .args in Registers (start .header .rank) (c .size .result) (start .x .now)
 four c = let start = c .before .before in
-    registers (low (start .args .header .rank) (start .args .command) (start .pre .1)) (start .pre .0) (c .size .ensures)
+    let u = start .args in
+    registers (low (u .header .rank) (u .command) (in-range (u .header) (u .command) (start .pre .1))) (start .pre .0) (c .size .ensures)
 
 update : tie.Need-update-requires
 update c κs =
     let k = c .before .before in
     let sized = k .before .before in
     let start = sized .before .before in
-    (four sized, ap (inRange (start .args .header .rank)) (sym (k .command .given .1)) ∙ start .pre .1)
+    (four sized, ap (mayRun (start .args .header)) (sym (k .command .given .1)) ∙ start .pre .1)
 
 pub obey-spec : {M : Type 1} → statement M
 unfolding obey

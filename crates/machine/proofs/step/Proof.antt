@@ -6,7 +6,8 @@ use borrow.Author.Needs.{needs}
 use borrow.Author.Tests.{not-true}
 use lib.ListN.{length}
 use Rattle.lists.proofs.Test.{same-yes, same-no, not-false}
-use Rattle.sheet.specs.Check.{inRange}
+use Rattle.sheet.specs.Check.{mayRun}
+use Rattle.sheet.proofs.Allowed.{in-range}
 use Rattle.machine.specs.Step.{cost, costCall, stepCall}
 use Rattle.machine.specs.declared.Stepped.the-variants.{Obeyed}
 use Rattle.machine.proofs.step.Statement.{statement}
@@ -22,8 +23,8 @@ sized c = c .before .before
 
 -- ---- the needs
 
-ranged : (c : tie.Else2) → let u = start (sized c) .args in inRange (u .header .rank) (u .command) ≡ true
-ranged c = sym (c .before .in-range .ensures) ∙ not-false _ (c .if2 .left)
+runs : (c : tie.Else2) → let u = start (sized c) .args in mayRun (u .header) (u .command) ≡ true
+runs c = sym (c .before .may-run .ensures) ∙ not-false _ (c .if2 .left)
 
 returns : tie.Need-returns
 unfolding stepCall
@@ -31,20 +32,21 @@ returns c = rw (same-no {x = length (c .before .before .args .x .now)} {a = 2880
 
 returns-2 : tie.Need-returns-2
 unfolding stepCall
-returns-2 c = rw (sym (c .before .in-range .ensures) ∙ not-true _ (c .if2 .taken)) refl
+returns-2 c = rw (sym (c .before .may-run .ensures) ∙ not-true _ (c .if2 .taken)) refl
 
 obey-requires : tie.Need-obey-requires
-obey-requires c κs = (omega arith, ranged (c .before))
+obey-requires c κs = (omega arith, runs (c .before))
 
 -- what `cost` answered
 counted : (c : tie.After-cost) → let u = start (sized (c .before .before .before .before .before)) .args in cost (u .header .rank) (u .command) ≡ c .cost .result
 unfolding costCall
-counted c = sym (rw (ranged (c .before .before .before .before .before)) at (c .cost .ensures))
+counted c = let judged = c .before .before .before .before .before in let u = start (sized judged) .args in
+    sym (rw (in-range (u .header) (u .command) (runs judged)) at (c .cost .ensures))
 
 returns-3 : tie.Need-returns-3
 unfolding stepCall
 returns-3 c = let done = c .before .before .before in let judged = done .before .before in
-    rw (ranged judged, same-yes {x = length (start (sized judged) .args .x .now)} {a = 2880} (omega arith))
+    rw (runs judged, same-yes {x = length (start (sized judged) .args .x .now)} {a = 2880} (omega arith))
     (λ i. record { answer = Obeyed (counted c i); lent = sym (done .obey .ensures) i })
 
 pub step-spec : {M : Type 1} → statement M

@@ -1,5 +1,5 @@
 -- The size is judged before the commands.
-use mathlib.Core.Path.{refl, ap}
+use mathlib.Core.Path.{refl}
 use native.Mathlib.Omega.{arith}
 use borrow.Author.Needs.{needs}
 use lib.ListN.{length}
@@ -24,13 +24,10 @@ unfolding checkSheet
 returns-2 c = let n = length (start (c .before) .args .sheet .now) in
     rw (same-no (c .before .if1 .left), less-yes {x = 4096} {a = n} (omega (arith, c .if2 .taken))) refl
 
-commands-requires : tie.Need-commands-requires
-commands-requires c κs = ap (λ h. h .rank) (c .header-of .ensures)
-
 returns-3 : tie.Need-returns-3
 unfolding checkSheet
 returns-3 c = let some = c .before .before .before in let n = length (start some .args .sheet .now) in
     rw (same-no (some .if1 .left), less-no {x = 4096} {a = n} (omega (arith, c .before .before .if2 .left))) (c .commands .ensures)
 
 pub check-spec : {M : Type 1} → statement M
-check-spec = tie.close (tie.spec returns returns-2 (λ c κs. search needs) commands-requires returns-3)
+check-spec = tie.close (tie.spec returns returns-2 (λ c κs. search needs) (λ c κs. c .header-of .ensures) returns-3)

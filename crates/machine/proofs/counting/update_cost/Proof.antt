@@ -27,22 +27,26 @@ letter : tie.Need-returns-3
 unfolding updateCost
 letter c = rw (c .enum-told3 .given .1) (ap (λ n. 3 * n / 2) (sized (c .before .before .before)))
 
-product : tie.Need-returns-4
+inverse-letter : tie.Need-returns-4
 unfolding updateCost
-product c = rw (c .enum-told4 .given .1) (counted (c .before .before))
+inverse-letter c = rw (c .enum-told4 .given .1) (ap (λ n. 3 * n / 2) (sized (c .before .before .before)))
 
-sum : tie.Need-returns-5
+product : tie.Need-returns-5
 unfolding updateCost
-sum c = rw (c .enum-told5 .given .1) (sized (c .before .before .before))
+product c = rw (c .enum-told5 .given .1) (counted (c .before .before))
 
-scale : tie.Need-returns-6
+sum : tie.Need-returns-6
 unfolding updateCost
-scale c = rw (c .enum-told6 .given .1) (sized (c .before .before .before))
+sum c = rw (c .enum-told6 .given .1) (sized (c .before .before .before))
+
+scale : tie.Need-returns-7
+unfolding updateCost
+scale c = rw (c .enum-told7 .given .1) (sized (c .before .before .before))
 
 pub update-cost-spec : {M : Type 1} → statement M
 unfolding updateCost
 update-cost-spec =
     tie.close
     (tie.spec (λ c κs. search needs) mul-letter (λ c κs. search needs) (λ c. search needs) (λ c. search needs) (λ c. search needs) (λ c. search needs)
-    (λ c. search needs) (λ c. search needs)
-    (λ c. rw (c .enum-told .given .1) refl) (λ c. rw (c .enum-told2 .given .1) refl) letter product sum scale)
+    (λ c. search needs) (λ c. search needs) (λ c. search needs)
+    (λ c. rw (c .enum-told .given .1) refl) (λ c. rw (c .enum-told2 .given .1) refl) letter inverse-letter product sum scale)

@@ -15,16 +15,18 @@ use prog.Memory.{Memory}
 use prog.Routine.{Routine}
 use prog.Wp.{Heap, Tables}
 use ghost.Atoms.{Atoms}
+use contract.Lifetimes.{Lfts}
 use contract.Monad.{Fun}
 use contract.Running.{givenOf, tables, tablesOf}
 use types.Kit.{Given, ‵, raw, _$_, _∵_, !, qed, move, drop, fsplit3, fjoin}
 use types.Part.{whole, sub, look-in}
 use types.Run.{init, stop, fld, from, load, lit, of-opd, and-then, no-more, assigns, first, blocks, loops, land, enter, params1, pass1, pass0}
 use denote.Builtin.{usize}
-use denote.Laws.{Is}
+use denote.Laws.{Is, valss}
 use denote.Plain.{uint-makes}
 use denote.Ref.{now}
-use denote.Signature.{namedLft}
+use denote.RattleType.{owns}
+use denote.Signature.{namedLft, typesAt}
 use denote.Slice.{slice-vals}
 use denote.Steps.{owned}
 use denote.Triple.Entry.{alive}
@@ -33,8 +35,8 @@ use denote.Triple.Table.{cited}
 use Rattle.sheet_format.specs.Format.{header}
 use Rattle.sheet_format.proofs.Contracts.{local, ContractOf, calls}
 use Rattle.sheet_format.proofs.Locals.{allocated}
-use Rattle.sheet_format.proofs.Walks.{WalkGiven, begins-given}
-use Rattle.sheet_format.proofs.Held.{of-fields, fields-own}
+use Rattle.sheet_format.proofs.Walks.{Spelling, WalkGiven, begins-given}
+use Rattle.sheet_format.proofs.Held.{of-none, of-header, of-sheet}
 use Rattle.sheet_format.proofs.Reader.Laws as T′
 use Rattle.sheet_format.proofs.reader_at as reader-at
 use Rattle.sheet_format.proofs.reader_at.Symbol as reader-at-def
@@ -57,17 +59,21 @@ use Rattle.sheet.proofs.checks.commands.Proof.Kept.{Nearer, falls, begu
 use Rattle.sheet.proofs.checks.commands.Proof.Loop.{Next, Judge, Moved, Setting, fm, Inv, typed}
 use Rattle.sheet.proofs.checks.commands.Proof.Turn.{turns}
 
+-- the parameters: a sheet and its header
+abbrev params : (κs : Lfts 1) → Spelling (typesAt (commands.signature .params) κs)
+params κs = of-sheet κs (of-header of-none)
+
 module _ {M : Type 1} (𝓤 : URA M) (H : Heap 𝓤) (A : Atoms 𝓤) (mem : Memory → SProp 𝓤) (run : Routine → Fun 𝓤) where
   abbrev ReaderAt : Contract 𝓤
   ReaderAt = ContractOf 𝓤 H A reader-at.ended (reader-at.clauses 𝓤 H A mem run)
 
   module _ (W : Given 𝓤 H A) (𝓣 : Tables 𝓤 H) (known-at : Triple 𝓤 (𝓣 .C #reader-at) ReaderAt) (known-next : Triple 𝓤 (𝓣 .C #next) (Next 𝓤 H A mem run))
       (known-judge : Triple 𝓤 (𝓣 .C #judge) (Judge 𝓤 H A mem run)) (known-moved : Triple 𝓤 (𝓣 .C #moved) (Moved 𝓤 H A mem run)) where
-    walk : WalkGiven 𝓤 H A commands.ended (commands.clauses 𝓤 H A mem run) of-fields (λ κs a. a .1 .0 ≡ header (now (a .0)) .rank) (𝓣 .C) (𝓣 .Λ) code.function
+    walk : WalkGiven 𝓤 H A commands.ended (commands.clauses 𝓤 H A mem run) params (λ κs a. a .1 .0 ≡ header (now (a .0))) (𝓣 .C) (𝓣 .Λ) code.function
     walk = record {
       required = λ κs a g. id⊢ 𝓤 _;
-      go = λ κs qs a g ranked wt.
-          qed W (raw (alive 𝓤 H A commands.signature κs qs) ∷ ‵ (fields-own κs (record { sheet = a .0; at = a .1 .0 })) ∷ []) ∵
+      go = λ κs qs a g begins wt.
+          qed W (raw (alive 𝓤 H A commands.signature κs qs) ∷ ‵ (owns (typesAt (commands.signature .params) κs) a (valss (typesAt (commands.signature .params) κs) (params κs .spell) a)) ∷ []) ∵
           enter ! (𝓣 .C) (𝓣 .Λ) code.function _ _ $ allocated ! (λ b.
           let S : Setting M = record {
             𝓤 = 𝓤;
@@ -83,9 +89,9 @@ module _ {M : Type 1} (𝓤 : URA M) (H : Heap 𝓤) (A : Atoms 𝓤) (mem : Mem
             κs = κs;
             qs = qs;
             a = a;
-            ranked = ranked;
+            begins = begins;
             sized = wt .0 .1 .1 .0 .fits;
-            small = wt .1 .0 .1 .fits;
+            small = (wt .1 .0 .1 .0 .fits, wt .1 .0 .1 .1 .0 .fits);
             b = b;
           } in
           params1 ! $ pass1 ! (init ! 20 refl (wt .0)) $ pass1 ! (init ! 18 refl (wt .1 .0)) $ pass0 ! $

@@ -32,21 +32,29 @@ letter-not : tie.Need-returns-5
 unfolding updateInRange isRegister less
 letter-not c = rw (c .before .before .update3 .given .1) (and-off _ (less-no (c .if2 .left)))
 
-product : tie.Need-returns-6
-unfolding updateInRange
-product c = rw (c .before .before .update4 .given .1) (c .three-registers .ensures)
+inverse-letter : tie.Need-returns-6
+unfolding updateInRange isRegister
+inverse-letter c = rw (c .before .before .before .update4 .given .1) (c .is-letter2 .ensures ∙ and-on _ (less-yes (c .before .if3 .taken)))
 
-sum : tie.Need-returns-7
-unfolding updateInRange
-sum c = rw (c .before .before .update5 .given .1) (c .three-registers2 .ensures)
-
-scale : tie.Need-returns-8
+inverse-letter-not : tie.Need-returns-7
 unfolding updateInRange isRegister less
-scale c = rw (c .before .update6 .given .1) refl
+inverse-letter-not c = rw (c .before .before .update4 .given .1) (and-off _ (less-no (c .if3 .left)))
+
+product : tie.Need-returns-8
+unfolding updateInRange
+product c = rw (c .before .before .update5 .given .1) (c .three-registers .ensures)
+
+sum : tie.Need-returns-9
+unfolding updateInRange
+sum c = rw (c .before .before .update6 .given .1) (c .three-registers2 .ensures)
+
+scale : tie.Need-returns-10
+unfolding updateInRange isRegister less
+scale c = rw (c .before .update7 .given .1) refl
 
 pub update-in-range-spec : {M : Type 1} → statement M
 update-in-range-spec =
     tie.close
     (tie.spec (λ c. search needs) (λ c. search needs) (λ c κs. search needs) (λ c. search needs) (λ c κs. search needs) (λ c. search needs)
-    (λ c κs. search needs) (λ c. search needs) (λ c κs. search needs) (λ c. search needs)
-    unit set set-not letter letter-not product sum scale)
+    (λ c κs. search needs) (λ c. search needs) (λ c κs. search needs) (λ c. search needs) (λ c κs. search needs) (λ c. search needs)
+    unit set set-not letter letter-not inverse-letter inverse-letter-not product sum scale)

@@ -15,6 +15,7 @@ use lib.ListN.{length}
 use lib.WfN.{Nat·lt-wfRel}
 use denote.Ref.{RefT, now}
 use Rattle.sheet_format.specs.Format.{decode, header}
+use Rattle.sheet_format.specs.declared.Header.{Header}
 use Rattle.sheet_format.specs.declared.Reader.{Reader}
 use Rattle.sheet_format.specs.declared.Decoded.{Decoded}
 use Rattle.sheet.specs.Check.{placed, firstRefusal}
@@ -39,14 +40,14 @@ module _ (s : RefT (List ℕ)) where
   falls = InvImage·wf left (Nat·lt-wfRel .wf)
 
   abbrev pub Judges : Kept s → Judged → Type 0
-  Judges x j = judged (length (now s)) (header (now s) .rank) (x .reader .at) (decode (now s) (x .reader .at)) ≡ j
+  Judges x j = judged (length (now s)) (header (now s)) (x .reader .at) (decode (now s) (x .reader .at)) ≡ j
 
-  pub said : (x : Kept s) (m : ℕ) → m ≡ header (now s) .rank → (t : Decoded) → t ≡ decode (now (x .reader .sheet)) (x .reader .at) → (j : Judged)
-      → j ≡ judged (length (now s)) m (x .reader .at) t → Judges x j
-  said x m ranked t found j told =
+  pub said : (x : Kept s) (h : Header) → h ≡ header (now s) → (t : Decoded) → t ≡ decode (now (x .reader .sheet)) (x .reader .at) → (j : Judged)
+      → j ≡ judged (length (now s)) h (x .reader .at) t → Judges x j
+  said x h begins t found j told =
       let at : ℕ = x .reader .at in
       let here : t ≡ decode (now s) at = found ∙ ap (λ (y : RefT (List ℕ)). decode (now y) at) (x .same) in
-      sym (told ∙ (λ i. judged (length (now s)) (ranked i) at (here i)))
+      sym (told ∙ (λ i. judged (length (now s)) (begins i) at (here i)))
 
   pub followed : (x : Kept s) (j : Judged) → Judges x j → follow (now s) j ≡ firstRefusal (now s) (placed (now s))
   followed x j e = sym (check-step (now s) (x .reader .at) ∙ ap (follow (now s)) e) ∙ x .whole-check
@@ -58,4 +59,4 @@ module _ (s : RefT (List ℕ)) where
   goes-on x k e r same at = record { reader = r; same = same ∙ x .same; whole-check = ap (checkFrom (now s)) at ∙ followed x (On k) e }
 
   pub nearer : (x : Kept s) (k : ℕ) → Judges x (On k) → (n : ℕ) → n ≡ k → length (now s) - n < left x
-  nearer x k e n at = let w = on-within (now s) (header (now s) .rank) (x .reader .at) k e in omega arith
+  nearer x k e n at = let w = on-within (now s) (header (now s)) (x .reader .at) k e in omega arith

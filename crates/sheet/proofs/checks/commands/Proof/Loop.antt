@@ -6,7 +6,8 @@
 --   Inv x      what stands where a turn begins
 --   Turned x   where a turn ends: a turn begins anew, with fewer bytes left, or the function returns
 --   typed      the machine value of a reader fits the type of a local
-use mathlib.Core.Path.{_≡_}
+--   head-is    what the header's machine value is
+use mathlib.Core.Path.{_≡_, refl}
 use mathlib.Core.List.{List, [], _∷_}
 use Prim.Native.Nat.{ℕ, _<_, _^_}
 use lib.Dec.{T}
@@ -25,16 +26,20 @@ use types.Kit.{Given, Item, Post, anyQ, ‵, raw}
 use types.Run.{Below}
 use sound.WpLaws.{FmC, fmOf}
 use denote.Laws.{Is}
+use denote.Struct.Laws as LL
 use denote.Ref.{RefT, now}
 use denote.Slice.{sliceTy, sliceVal}
 use denote.Triple.Entry.{Args, alive}
 use denote.Triple.Statement.{Contract, Triple}
 use Rattle.sheet_format.specs.Format.{header}
+use Rattle.sheet_format.specs.declared.Header.{Header}
 use Rattle.sheet_format.specs.declared.Reader.{Reader}
 use Rattle.sheet_format.proofs.Contracts.{ContractOf, After}
 use Rattle.sheet_format.proofs.Locals.{Content, room, holds, Spots, envAt, standing}
 use Rattle.sheet_format.proofs.Held.{row, reader-typed}
 use Rattle.refusals.proofs.Verdict.Laws as Vd′
+use Rattle.sheet_format.proofs.Header as Hd
+use Rattle.sheet_format.proofs.Header.Laws as Hd′
 use Rattle.sheet_format.proofs.Reader.Laws as T′
 use Rattle.sheet_format.proofs.Decoded.Laws as D′
 use Rattle.sheet.proofs.checks.Judged.Laws as J′
@@ -58,7 +63,7 @@ abbrev reader : Ty
 reader = T′.mir erased
 
 abbrev locals : List Ty
-locals = Vd′.mir ∷ slice ∷ word ∷ word ∷ reader ∷ word ∷ Vd′.mir ∷ J′.mir ∷ word ∷ D′.mir ∷ reader ∷ reader ∷ []
+locals = Vd′.mir ∷ slice ∷ Hd′.mir ∷ word ∷ reader ∷ word ∷ Vd′.mir ∷ J′.mir ∷ word ∷ D′.mir ∷ reader ∷ reader ∷ []
 
 module _ {M : Type 1} (𝓤 : URA M) (H : Heap 𝓤) (A : Atoms 𝓤) (mem : Memory → SProp 𝓤) (run : Routine → Fun 𝓤) where
   abbrev pub Next : Contract 𝓤
@@ -84,19 +89,19 @@ pub record Setting (M : Type 1) : Type 2 where
   pub κs : Lfts 1
   pub qs : Shares 1
   pub a : Args commands.signature κs
-  pub ranked : a .1 .0 ≡ header (now (a .0)) .rank
+  pub begins : a .1 .0 ≡ header (now (a .0))
   pub sized : length (now (a .0)) < 2 ^ 64
-  pub small : a .1 .0 < 2 ^ 64
+  pub small : (a .1 .0 .rank < 2 ^ 64) × (a .1 .0 .q < 2 ^ 64)
   pub b : Spots locals
 
 module _ {M : Type 1} (S : Setting M) where
-  open Setting S using (𝓤, H, A, mem, run, W, 𝓣, κs, qs, a, b)
+  open Setting S using (𝓤, H, A, mem, run, W, 𝓣, κs, qs, a, small, b)
 
   abbrev pub s : RefT (List ℕ)
   s = a .0
 
-  abbrev pub m : ℕ
-  m = a .1 .0
+  abbrev pub head : Header
+  head = a .1 .0
 
   abbrev pub n : ℕ
   n = length (now s)
@@ -116,7 +121,7 @@ module _ {M : Type 1} (S : Setting M) where
   abbrev pub At : Reader → List Content → List (Item 𝓤)
   At r cs =
       Own r ∷ raw (alive 𝓤 H A commands.signature κs qs)
-      ∷ standing (room ∷ holds (sliceVal (s .ptr) n) ∷ holds (vint w64 m) ∷ holds (vint w64 n) ∷ holds (T′.lowered r) ∷ cs) E []
+      ∷ standing (room ∷ holds (sliceVal (s .ptr) n) ∷ holds (Hd′.lowered head) ∷ holds (vint w64 n) ∷ holds (T′.lowered r) ∷ cs) E []
 
   abbrev pub Inv : Kept s → List (Item 𝓤)
   Inv x = At (x .reader) []
@@ -130,3 +135,6 @@ module _ {M : Type 1} (S : Setting M) where
 
   pub typed : (r : Reader) → Is (row κs) r (T′.lowered r ∷ []) → T (hasTy reader (T′.lowered r)) × WT (T′.lowered r)
   typed r is = reader-typed 𝓤 H A W (record { mir = erased; lft = κs .0 }) r (T′.lowered r) is .0
+
+  pub head-is : Is Hd.the-row head (Hd′.lowered head ∷ [])
+  head-is = LL.owes Hd.the-type Hd′.the-laws head ((refl, small .0), ((refl, small .1), tt))

@@ -21,6 +21,8 @@ use Rattle.sheet_format.specs.Format.{decode}
 use Rattle.sheet_format.specs.declared.Reader.{Reader}
 use Rattle.sheet_format.proofs.Contracts.{local, calls}
 use Rattle.sheet_format.proofs.Held.{row, decoded-typed}
+use Rattle.sheet_format.proofs.Header as Hd
+use Rattle.sheet_format.proofs.Header.Laws as Hd′
 use Rattle.sheet_format.proofs.Reader as T
 use Rattle.sheet_format.proofs.Reader.Laws as T′
 use Rattle.sheet_format.proofs.Decoded.Laws as D′
@@ -32,7 +34,7 @@ use Rattle.sheet.proofs.checks.Judged.Laws as J′
 use Rattle.sheet.proofs.checks.judge as judge
 use Rattle.sheet.proofs.checks.judge.Symbol.{name as #judge}
 use Rattle.sheet.proofs.checks.commands.Proof.Kept.{Kept, said}
-use Rattle.sheet.proofs.checks.commands.Proof.Loop.{Setting, s, m, n, fm, E, Own, Inv, Turned, typed}
+use Rattle.sheet.proofs.checks.commands.Proof.Loop.{Setting, s, head, n, fm, E, Own, Inv, Turned, typed, head-is}
 use Rattle.sheet.proofs.checks.commands.Proof.Arms.{chooses, matched}
 
 abbrev turn : Body
@@ -43,7 +45,7 @@ turn =
     (seq (call #judge (copy (place 3 []) ∷ copy (place 2 []) ∷ copy (place 8 []) ∷ copy (place 9 []) ∷ []) (place 7 [])) chooses)))
 
 module _ {M : Type 1} (S : Setting M) where
-  open Setting S using (𝓤, H, A, mem, run, W, 𝓣, known-next, known-judge, κs, qs, ranked, sized, small)
+  open Setting S using (𝓤, H, A, mem, run, W, 𝓣, known-next, known-judge, κs, qs, begins, sized)
 
   pub turns : (x : Kept (s S)) → Sq W (Inv S x) (runs (𝓣 .C) (𝓣 .Λ) (E S) turn (Turned S x))
   turns x =
@@ -62,14 +64,14 @@ module _ {M : Type 1} (S : Setting M) where
       land ! (from ! (stop !)) (init ! 7 refl (decoded-typed 𝓤 H A W t (D′.lowered t) is .0)) $
       nothing ! $ move ! (1 ∷ 0 ∷ []) $ fjoin ! $
       owned ! usize (Is usize) (uint-makes 𝓤 H A W w64) (r .at) (vint w64 (r .at) ∷ []) (refl, typed S r isr .1 .1 .0 .fits) $ fjoin ! $
-      owned ! usize (Is usize) (uint-makes 𝓤 H A W w64) (m S) (vint w64 (m S) ∷ []) (refl, small) $ fjoin ! $
+      owned ! Hd.the-row (Is Hd.the-row) (LL.makes Hd.the-type Hd′.the-plain 𝓤 H A) (head S) (Hd′.lowered (head S) ∷ []) (head-is S) $ fjoin ! $
       owned ! usize (Is usize) (uint-makes 𝓤 H A W w64) (n S) (vint w64 (n S) ∷ []) (refl, sized) $ fjoin ! $
       use0 W (raw (alive 𝓤 H A judge.signature tt tt)) (id⊢ 𝓤 _) $ move ! (1 ∷ 0 ∷ []) $
-      calls 𝓤 H A judge.ended (judge.clauses 𝓤 H A mem run) tt tt (n S, (m S, (r .at, (t, tt)))) tt
-      (vint w64 (n S) ∷ [], (vint w64 (m S) ∷ [], (vint w64 (r .at) ∷ [], (D′.lowered t ∷ [], tt)))) tt
-      ! (fm S) known-judge (id⊢ 𝓤 _) J′.lowers (λ j. j ≡ judged (n S) (m S) (r .at) t) (λ j ws. id⊢ 𝓤 _)
+      calls 𝓤 H A judge.ended (judge.clauses 𝓤 H A mem run) tt tt (n S, (head S, (r .at, (t, tt)))) tt
+      (vint w64 (n S) ∷ [], (Hd′.lowered (head S) ∷ [], (vint w64 (r .at) ∷ [], (D′.lowered t ∷ [], tt)))) tt
+      ! (fm S) known-judge (id⊢ 𝓤 _) J′.lowers (λ j. j ≡ judged (n S) (head S) (r .at) t) (λ j ws. id⊢ 𝓤 _)
       (and-then ! (local ! 19 refl) (and-then ! (local ! 21 refl) (and-then ! (local ! 9 refl) (and-then ! (local ! 7 refl) (no-more !))))) (λ j told is′.
       -- [what the judgement owns; no token; the token; what the kept reader owns; the locals]
       land ! (from ! (stop !)) (init ! 12 refl (EL.lawful J.the-type J′.the-laws 𝓤 H A W tt .typed j (J′.lowered j ∷ []) is′ .0)) $
       drop ! $ drop ! $ move ! (1 ∷ 0 ∷ []) $
-      matched S x j (said (s S) x (m S) ranked t found j told) is′ isr (r .at) (D′.lowered t))))
+      matched S x j (said (s S) x (head S) begins t found j told) is′ isr (r .at) (D′.lowered t))))
