@@ -7,7 +7,6 @@ mod Moved
 mod LowRanks
 mod LetterCut
 mod WordAction
-mod WordCounts
 mod SignedAction
 mod SignedValues
 -- the action of T_a(j,l)

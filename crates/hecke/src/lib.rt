@@ -5,8 +5,9 @@
 // and a refusal counts 0 and leaves every lent word as it was.
 
 ghost use mathlib.Core.Path.{_≡_};
-ghost use Prim.Native.Nat.{suc, _≤_};
+ghost use Prim.Native.Nat.{suc, _*_, _/_, _≤_};
 ghost use Rattle.lists.specs.Numbers.{factorial};
+ghost use Rattle.refusals.specs.Refusals.{accepted};
 ghost use Rattle.element_calls.specs.Calls.{actWordCall, actSignedWordCall, productCall};
 use element_calls::checks;
 use element_calls::signed;
@@ -29,6 +30,14 @@ fn size(m: usize) -> usize
     ranks::size(m)
 }
 
+// The answer of the action of n letters on an element of rank m.
+fn acted(n: usize, m: usize) -> Answer
+    requires { ⌜ (n ≤ 4096) × (m ≤ 6) ⌝ }
+    ensures { λ a. ⌜ a ≡ accepted (n * (3 * factorial (suc m) / 2)) ⌝ }
+{
+    refusals::accepted(n as u64 * (3 * size(m) as u64 / 2))
+}
+
 // The word's generators T_i act on the element of rank m, left to right: 3M/2 ring operations a letter.
 // Refused: 1 a rank above 6; 2 an element that is not M words; 4 a word of over 4,096 letters, or the first letter that is 0
 // or above m.
@@ -44,7 +53,7 @@ pub fn act_word(m: usize, q: u64, word: &[u8], element: &mut [u64]) -> Answer
         return refused(why);
     }
     letters::act_letters(element, word, m, element_calls::parameters_of(q));
-    accepted(word.len() as u64 * (3 * size(m) as u64 / 2))
+    acted(word.len(), m)
 }
 
 // The word's signed letters act on the element of rank m, left to right: i stands for T_i and -i for its inverse, q' T_i + (q' - 1)
@@ -59,14 +68,10 @@ pub fn act_signed_word(m: usize, q: u64, word: &[i8], element: &mut [u64]) -> An
     if let Verdict::Refused(why) = checked {
         return refused(why);
     }
-    letters::act_signed_letters(
-        element,
-        word,
-        m,
-        element_calls::parameters_of(q),
-        signed::inverse_parameters(q, word),
-    );
-    accepted(word.len() as u64 * (3 * size(m) as u64 / 2))
+    let p = element_calls::parameters_of(q);
+    let back = signed::inverse_parameters(q, word);
+    letters::act_signed_letters(element, word, m, p, back);
+    acted(word.len(), m)
 }
 
 // The product of two elements of rank m, by the nested method: C(m, m) ring operations. The first (m + 6) M words of scratch

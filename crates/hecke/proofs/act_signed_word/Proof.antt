@@ -1,6 +1,6 @@
--- All checks are one; then the letters act. Rests on SignedValues, refusals' Ended, ranks' Sizes, algebra's WordSlices, and element_calls'
+-- All checks are one; then the letters act. Rests on SignedValues, refusals' Ended, algebra's WordSlices, and element_calls'
 -- SignedVerdicts and Calls.
-use mathlib.Core.Path.{_≡_, sym, ap, ap₂, _∙_}
+use mathlib.Core.Path.{_≡_, refl, sym, ap, ap₂, _∙_}
 use mathlib.Core.Logic.{_⊎_}
 use mathlib.Core.Bool.{true}
 use mathlib.Core.List.{List}
@@ -16,7 +16,6 @@ use Rattle.refusals.proofs.Ended.{ended-refused}
 use Rattle.algebra.proofs.WordSlices.{slice-element}
 use Rattle.signed_words.specs.Words.{SignedWord}
 use Rattle.inverses.specs.Inverses.{hasInverse}
-use Rattle.ranks.proofs.Sizes.{size-small}
 use Rattle.element_calls.specs.declared.Parameters.{Parameters}
 use Rattle.element_calls.specs.Calls.{actSignedWordCall}
 use Rattle.element_calls.specs.Claims.{NoneBelow}
@@ -24,7 +23,6 @@ use Rattle.element_calls.proofs.SignedVerdicts.{signed-accepted}
 use Rattle.element_calls.proofs.Calls.{write-done}
 use Rattle.hecke.specs.Steps.{signedActed}
 use Rattle.hecke.proofs.SignedValues.{asked-is}
-use Rattle.hecke.proofs.WordCounts.{few}
 use Rattle.hecke.proofs.act_signed_word.Statement.{statement}
 use Rattle.hecke.proofs.act_signed_word.Tie as tie
 
@@ -40,7 +38,7 @@ start c = c .before .before
 abbrev accepting : tie.After-act-signed-letters → tie.After-enum-told
 accepting c = c .before .before .before .before
 
-abbrev all-acted : tie.After-size → tie.After-act-signed-letters
+abbrev all-acted : tie.After-acted → tie.After-act-signed-letters
 all-acted c = c .before .before .before
 
 -- ---- the needs
@@ -58,30 +56,22 @@ returns c = let checked = c .before .before in
 act-signed-letters-requires : tie.Need-act-signed-letters-requires
 act-signed-letters-requires c κs = let g = accepts (c .before .before .before) in record { rank = g .0; letters = g .2; size = g .1 }
 
-size-requires : tie.Need-size-requires
-size-requires c κs = accepts (accepting (c .before .before)) .0
-
-mul-accepted : tie.Need-mul-accepted
-mul-accepted c = let g = accepts (accepting (all-acted c)) in omega (arith, size-small _ (g .0), c .size .ensures)
-
-mul-accepted-2 : tie.Need-mul-accepted-2
-mul-accepted-2 c =
-    let g = accepts (accepting (all-acted c)) in
-    record { fits = few _ _ (g .3) (omega (arith, size-small _ (g .0), c .size .ensures)) }
+acted-requires : tie.Need-acted-requires
+acted-requires c κs = let g = accepts (accepting (c .before .before)) in (g .3, g .0)
 
 returns-2 : tie.Need-returns-2
 unfolding actSignedWordCall
 returns-2 c =
-    let made = all-acted (c .before) in let told = accepting made in let checked = told .before .before in
+    let made = all-acted c in let told = accepting made in let checked = told .before .before in
     let u = start checked .args in let g = accepts told in
     write-done _ _ _ _ (sym (checked .check .ensures) ∙ told .enum-told .given .1)
     (letters-act (u .m) (u .word .now) (u .element .now) (made .act-signed-letters .ensures)
-    (made .before .before .parameters-of .ensures) (made .before .inverse-parameters .ensures)
+    (made .before .before .before .parameters-of .ensures) (made .before .before .inverse-parameters .ensures)
     ∙ asked-is (u .m) (u .q) (u .word .now) (u .element .now) (start checked .fits .q .fits) (g .2) (slice-element (g .1) (checked .before .slice-known .given)) (g .4))
-    (ap (λ (n : ℕ). length (u .word .now) * (3 * n / 2)) (c .before .size .ensures)) (c .accepted .ensures)
+    refl (c .acted .ensures)
 
 pub act-signed-word-spec : {M : Type 1} → statement M
 act-signed-word-spec =
     tie.close
     (tie.spec (λ c κs. search needs) (λ c. search needs) (λ c κs. search needs) returns (λ c. search needs) (λ c κs. search needs) (λ c κs. search needs)
-    act-signed-letters-requires size-requires mul-accepted mul-accepted-2 (λ c κs. search needs) (λ c. search needs) returns-2)
+    act-signed-letters-requires acted-requires (λ c. search needs) returns-2)

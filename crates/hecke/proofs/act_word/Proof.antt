@@ -1,6 +1,6 @@
--- The rank, the element and the word are judged; then the letters act. Rests on WordCounts, refusals' Verdicts and Ended, ranks' Sizes, and element_calls' Verdicts and
+-- The rank, the element and the word are judged; then the letters act. Rests on refusals' Verdicts and Ended, and element_calls' Verdicts and
 -- Calls.
-use mathlib.Core.Path.{_≡_, sym, ap, _∙_}
+use mathlib.Core.Path.{_≡_, refl, sym, ap, _∙_}
 use mathlib.Core.List.{List}
 use Prim.Native.Nat.{ℕ, suc, _*_, _/_, _≤_}
 use native.Mathlib.Omega.{arith}
@@ -13,13 +13,11 @@ use Rattle.refusals.proofs.Verdicts.{accepts-first, accepts-next, both}
 use Rattle.refusals.proofs.Ended.{ended-refused}
 use Rattle.perms.specs.Permutation.{Word}
 use Rattle.algebra.specs.Product.{act}
-use Rattle.ranks.proofs.Sizes.{size-small}
 use Rattle.element_calls.specs.declared.Parameters.{Parameters}
 use Rattle.element_calls.specs.Coefficients.{ring, parametersOf}
 use Rattle.element_calls.specs.Calls.{rankVerdict, sizeVerdict, wordVerdict, actWordCall}
 use Rattle.element_calls.proofs.Verdicts.{one-accepted, word-accepted}
 use Rattle.element_calls.proofs.Calls.{write-done}
-use Rattle.hecke.proofs.WordCounts.{few}
 use Rattle.hecke.proofs.act_word.Statement.{statement}
 use Rattle.hecke.proofs.act_word.Tie as tie
 
@@ -52,7 +50,7 @@ refusing c = c .before .before .before .before
 abbrev accepting : tie.After-act-letters → tie.After-enum-told
 accepting c = c .before .before .before
 
-abbrev all-acted : tie.After-size → tie.After-act-letters
+abbrev all-acted : tie.After-acted → tie.After-act-letters
 all-acted c = c .before .before .before
 
 -- ---- the needs
@@ -74,29 +72,21 @@ returns c = ended-refused refused _ _ _ (sym (row (refusing c)) ∙ c .before .b
 act-letters-requires : tie.Need-act-letters-requires
 act-letters-requires c κs = let g = good (c .before .before) in record { rank = g .rank; letters = g .word; size = g .element }
 
-size-requires : tie.Need-size-requires
-size-requires c κs = good (accepting (c .before .before)) .rank
-
-mul-accepted : tie.Need-mul-accepted
-mul-accepted c = let g = good (accepting (all-acted c)) in omega (arith, size-small _ (g .rank), c .size .ensures)
-
-mul-accepted-2 : tie.Need-mul-accepted-2
-mul-accepted-2 c =
-    let g = good (accepting (all-acted c)) in
-    record { fits = few _ _ (g .few) (omega (arith, size-small _ (g .rank), c .size .ensures)) }
+acted-requires : tie.Need-acted-requires
+acted-requires c κs = let g = good (accepting (c .before .before)) in (g .few, g .rank)
 
 returns-2 : tie.Need-returns-2
 unfolding actWordCall
 returns-2 c =
-    let made = all-acted (c .before) in let told = accepting made in
+    let made = all-acted c in let told = accepting made in
     let u = start (told .before .before) .args in
     write-done _ _ _ _ (sym (row (told .before .before)) ∙ told .enum-told .given .1)
     (letters-act (u .m) (u .q) (u .word .now) (u .element .now) (made .act-letters .ensures) (made .before .parameters-of .ensures))
-    (ap (λ (n : ℕ). length (u .word .now) * (3 * n / 2)) (c .before .size .ensures)) (c .accepted .ensures)
+    refl (c .acted .ensures)
 
 pub act-word-spec : {M : Type 1} → statement M
 act-word-spec =
     tie.close
     (tie.spec (λ c κs. search needs) (λ c κs. search needs) (λ c κs. search needs) (λ c κs. search needs) (λ c κs. search needs)
     (λ c. search needs) (λ c κs. search needs) returns (λ c. search needs)
-    (λ c κs. search needs) act-letters-requires size-requires mul-accepted mul-accepted-2 (λ c κs. search needs) (λ c. search needs) returns-2)
+    (λ c κs. search needs) act-letters-requires acted-requires (λ c. search needs) returns-2)
