@@ -47,7 +47,7 @@ counted h x old scratch word four each size large = record {
       (omega arith) refl;
   inverse-letter = λ r i a. let c = Change (U.InverseLetter r i) in let e = in-range h c a in let w = within (h .rank) c e refl in
       obeying h x c r
-      (inverse-taken (low (h .rank) c e) (h .q) (has-inverse h a refl) i (record { low = w .1; high = w .2 }) (part h x c four each e (w .0)) refl)
+      (inverse-taken (h .q) i (low (h .rank) c e) (has-inverse h a refl) (record { low = w .1; high = w .2 }) (part h x c four each e (w .0)) refl refl)
       refl refl;
   product = λ d a b e. let c = Change (U.Product d a b) in let w = within (h .rank) c e refl in
       obeying h x c d

@@ -18,7 +18,7 @@ use Rattle.ranks.specs.Ranks.{size, needed, scratchSize}
 use Rattle.element_calls.specs.Coefficients.{modulus}
 use Rattle.element_calls.specs.Calls.{rankVerdict, sizeVerdict, scratchVerdict, productCall}
 use Rattle.sheet_format.specs.Format.{byte, number, row as command-row, decode, header}
-use Rattle.sheet.specs.Check.{inOrder, isRegister, updateInRange, queryInRange, operandsInRange, inRange, placedFrom, placed, commands, firstRefusal, checkSheet}
+use Rattle.sheet.specs.Check.{inOrder, isRegister, updateInRange, queryInRange, operandsInRange, inRange, invertible, mayRun, placedFrom, placed, commands, firstRefusal, checkSheet}
 use Rattle.machine.specs.Registers.{register, zeros, element as register-element}
 use Rattle.machine.specs.Step.{updated, obey, updateCost, cost}
 use Rattle.runner.specs.Run.{obeyAll, runSheet}
@@ -31,7 +31,7 @@ pub marked : All Holds table
 unfolding modular same less range first tally product identity swap generator ofWord below len above entry towerOf cycle ofCycles
     imagesOf descent firstLetters shortestWord factorial series block blocks place join perms coefficient element plus scale sumOver basis unit minusOne letter
     act times operations both free onward _⧺_ row _⊞_ _⊠_ sumRow part level nestedAct nested cLine c C rankVerdict size sizeVerdict needed scratchSize scratchVerdict
-    modulus productCall byte number command-row decode header inOrder isRegister updateInRange queryInRange operandsInRange inRange placedFrom placed commands
+    modulus productCall byte number command-row decode header inOrder isRegister updateInRange queryInRange operandsInRange inRange invertible mayRun placedFrom placed commands
     firstRefusal checkSheet register register-element overwrite zeros updated obey updateCost cost obeyAll runSheet beginCall fits obeys turnCall turns
     digits decimal pairLine line taggedPair coefficients shown text texts printed ended
 marked = (

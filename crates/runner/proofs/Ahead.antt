@@ -1,5 +1,5 @@
--- The commands of an accepted sheet from an offset on: the one that stands there, and those after it; each is in range. Rests on sheet's Accepted,
--- Limit and InRange.
+-- The commands of an accepted sheet from an offset on: the one that stands there, and those after it; each may run. Rests on sheet's Accepted,
+-- Limit, InRange and Allowed.
 use mathlib.Core.Path.{_≡_, ap}
 use mathlib.Core.Logic.{⊎-elim}
 use mathlib.Core.Bool.{true, false}
@@ -12,8 +12,9 @@ use Rattle.refusals.specs.declared.Verdict.the-variants.{Accepted}
 use Rattle.sheet_format.specs.Format.{header}
 use Rattle.sheet_format.specs.declared.Command.{Command}
 use Rattle.sheet_format.proofs.Offsets.{found-within}
-use Rattle.sheet.specs.Check.{isEnd, inRange, placedFrom, placed, commands, checkSheet}
+use Rattle.sheet.specs.Check.{isEnd, mayRun, placedFrom, placed, commands, checkSheet}
 use Rattle.sheet.proofs.InRange.{low}
+use Rattle.sheet.proofs.Allowed.{in-range}
 use Rattle.sheet.proofs.Limit.{placed-enough}
 use Rattle.sheet.proofs.CheckFrom.{checkFrom}
 use Rattle.sheet.proofs.Accepted.{Next, accepted-start, accepted-next}
@@ -36,15 +37,16 @@ module _ (s : List ℕ) where
         (placed-enough (length s - at) (suc (length s - n .after)) s (n .after) (omega (arith, w)) (omega arith)))
 
   pub rank-low : checkSheet s ≡ Accepted → header s .rank ≤ 5
-  rank-low a = let n = accepted-next s 0 (accepted-start s a .2) in low (header s .rank) (n .command) (n .range)
+  rank-low a = let n = accepted-next s 0 (accepted-start s a .2) in
+      low (header s .rank) (n .command) (in-range (header s) (n .command) (n .runs))
 
-  in-range-from : (k at : ℕ) → length s - at < k → checkFrom s at ≡ Accepted → All (λ c. inRange (header s .rank) c ≡ true) (ahead s at)
-  in-range-from zero at h a = absurd (omega arith)
-  in-range-from (suc k) at h a =
+  may-run-from : (k at : ℕ) → length s - at < k → checkFrom s at ≡ Accepted → All (λ c. mayRun (header s) c ≡ true) (ahead s at)
+  may-run-from zero at h a = absurd (omega arith)
+  may-run-from (suc k) at h a =
       let n = accepted-next s at a in
       let w = found-within s at (n .stands) in
-      ⊎-elim (λ l. rw (ahead-last at n (l .0)) (n .range, tt))
-      (λ l. rw (ahead-next at n (l .0)) (n .range, in-range-from k (n .after) (omega (arith, w)) (l .1))) (n .rest)
+      ⊎-elim (λ l. rw (ahead-last at n (l .0)) (n .runs, tt))
+      (λ l. rw (ahead-next at n (l .0)) (n .runs, may-run-from k (n .after) (omega (arith, w)) (l .1))) (n .rest)
 
-  pub all-in-range : checkSheet s ≡ Accepted → All (λ c. inRange (header s .rank) c ≡ true) (commands (placed s))
-  all-in-range a = rw (ahead-start) at (in-range-from (suc (length s)) 0 (omega arith) (accepted-start s a .2))
+  pub all-may-run : checkSheet s ≡ Accepted → All (λ c. mayRun (header s) c ≡ true) (commands (placed s))
+  all-may-run a = rw (ahead-start) at (may-run-from (suc (length s)) 0 (omega arith) (accepted-start s a .2))

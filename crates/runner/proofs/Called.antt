@@ -1,4 +1,4 @@
--- The tests of a turn, and what its step answers. Rests on lists' Test.
+-- The tests of a turn, and what its step answers. Rests on lists' Test and sheet's Allowed.
 use mathlib.Core.Path.{_≡_, refl, sym, ap, _∙_}
 use mathlib.Core.Bool.{Bool, true, false, _&&_, and-eq-true-iff}
 use mathlib.Core.List.{List}
@@ -10,7 +10,8 @@ use Rattle.lists.proofs.Test.{less-yes, less-no}
 use Rattle.sheet_format.specs.declared.Header.{Header}
 use Rattle.sheet_format.specs.declared.Command.{Command}
 use Rattle.sheet_format.specs.declared.Decoded.the-variants.{Found}
-use Rattle.sheet.specs.Check.{inRange}
+use Rattle.sheet.specs.Check.{mayRun}
+use Rattle.sheet.proofs.Allowed.{in-range}
 use Rattle.machine.specs.Step.{cost, costCall, stepCall}
 use Rattle.machine.specs.declared.Stepped.{Stepped}
 use Rattle.machine.specs.declared.Stepped.the-variants.{Obeyed, NotObeyed}
@@ -19,13 +20,13 @@ use Rattle.runner.specs.declared.Cursor.{Cursor}
 use Rattle.runner.specs.declared.Turned.the-variants as T
 
 module _ (h : Header) (k : Cursor) (c : Command) (after : ℕ) (x : List ℕ) {n : ℕ} (n-is : n ≡ costCall (h .rank) c) where
-  -- the command is in range, and the registers have their size
+  -- the command may run, and the registers have their size
   abbrev good : Bool
-  good = inRange (h .rank) c && same (length x) 2880
+  good = mayRun h c && same (length x) 2880
 
   counts : good ≡ true → n ≡ cost (h .rank) c
   unfolding costCall
-  counts e = n-is ∙ rw (and-eq-true-iff (inRange (h .rank) c) (same (length x) 2880) .0 e .0) refl
+  counts e = n-is ∙ rw (in-range h c (and-eq-true-iff (mayRun h c) (same (length x) 2880) .0 e .0)) refl
 
   not-good : good ≡ false → turnOf h k (Found c after) x ≡ record { answer = T.NotObeyed; lent = x }
   unfolding obeys

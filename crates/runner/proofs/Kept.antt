@@ -1,4 +1,4 @@
--- Commands in range keep the zeros past M in each register. Rests on Puts.
+-- Commands that may run keep the zeros past M in each register. Rests on Puts and sheet's Allowed.
 --
 --   Kept M x   four registers of 720 words, each of them zero past the first M
 use mathlib.Core.Path.{_≡_, ap, _∙_}
@@ -17,8 +17,9 @@ use Rattle.lists.proofs.Overwrite.{overwrite-size}
 use Rattle.ranks.proofs.Sizes.{sheet-size-small}
 use Rattle.sheet_format.specs.declared.Header.{Header}
 use Rattle.sheet_format.specs.declared.Command.{Command}
-use Rattle.sheet.specs.Check.{inRange}
+use Rattle.sheet.specs.Check.{mayRun}
 use Rattle.sheet.proofs.InRange.{low}
+use Rattle.sheet.proofs.Allowed.{in-range}
 use Rattle.machine.specs.Registers.{put}
 use Rattle.runner.specs.Run.{State, after, obeyAll}
 use Rattle.runner.proofs.Puts.{puts-obey}
@@ -67,9 +68,10 @@ module _ (h : Header) where
   abbrev M : ℕ
   M = factorial (suc (h .rank))
 
-  pub kept-all : (cs : List Command) (x : State) → All (λ c. inRange (h .rank) c ≡ true) cs → Kept M (x .contents) → Kept M (obeyAll h cs x .contents)
+  pub kept-all : (cs : List Command) (x : State) → All (λ c. mayRun h c ≡ true) cs → Kept M (x .contents) → Kept M (obeyAll h cs x .contents)
   unfolding obeyAll
   kept-all [] x a k = k
   kept-all (c ∷ cs) x a k =
+      let e = in-range h c (a .0) in
       kept-all cs (after h c x) (a .1)
-      (puts-obey h c (a .0) (Kept M) (λ y k. k .four) (kept-put (sheet-size-small (h .rank) (low (h .rank) c (a .0)))) (x .contents) k)
+      (puts-obey h c e (Kept M) (λ y k. k .four) (kept-put (sheet-size-small (h .rank) (low (h .rank) c e))) (x .contents) k)

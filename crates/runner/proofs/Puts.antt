@@ -16,11 +16,12 @@ use Rattle.algebra.specs.Element.{unit}
 use Rattle.algebra.proofs.Lists.{plus-length, scale-length}
 use Rattle.algebra.proofs.Coefficients.{basis-length}
 use Rattle.algebra.proofs.CoefficientActions.{act-length, times-length}
-use Rattle.element_calls.specs.Coefficients.{ring, parametersOf}
+use Rattle.signed_words.proofs.Lengths.{inverseLetter-length}
+use Rattle.element_calls.specs.Coefficients.{ring, parametersOf, inverseParameters}
 use Rattle.ranks.proofs.Sizes.{sheet-size-small}
 use Rattle.sheet_format.specs.declared.Header.{Header}
 use Rattle.sheet_format.specs.declared.Update.{Update}
-use Rattle.sheet_format.specs.declared.Update.the-variants.{Unit, Set, Letter, Product, Sum, Scale}
+use Rattle.sheet_format.specs.declared.Update.the-variants.{Unit, Set, Letter, InverseLetter, Product, Sum, Scale}
 use Rattle.sheet_format.specs.declared.Command.{Command}
 use Rattle.sheet_format.specs.declared.Command.the-variants.{End, Begin, Change, Show}
 use Rattle.sheet.specs.Check.{inRange}
@@ -49,6 +50,8 @@ module _ (h : Header) (c : Command) (range : inRange (h .rank) c ≡ true) where
     updates (Set r i v) w = putting x r _ (w .0) (length-set (element m r x) i v ∙ sized r (w .0)) k
     updates (Letter r i) w = let p = parametersOf (h .q) in
         putting x r _ (w .0) (act-length ℕ (ring p) (p .q) (p .r) m (i ∷ []) (element m r x) (sized r (w .0))) k
+    updates (InverseLetter r i) w = let p = parametersOf (h .q) in let p' = inverseParameters (h .q) in
+        putting x r _ (w .0) (inverseLetter-length ℕ (ring p) (p .q) (p .r) (p' .q) (p' .r) m i (element m r x) (sized r (w .0))) k
     updates (Product d a b) w = let p = parametersOf (h .q) in
         putting x d _ (w .0) (times-length ℕ (ring p) (p .q) (p .r) m m (element m a x) (element m b x) (sized a (w .1))) k
     updates (Sum d a b) w = let e = sized a (w .1) in

@@ -22,7 +22,7 @@ use Rattle.machine.specs.Registers.{register}
 use Rattle.runner.specs.Run.{start, obeyed, ran, given, runSheet, finishedReport, runVerdict, runCall}
 use Rattle.runner.specs.Turn.{begunFor, begunReport, beginCall}
 use Rattle.runner.specs.Runs.{M, Runs}
-use Rattle.runner.proofs.Ahead.{rank-low, all-in-range}
+use Rattle.runner.proofs.Ahead.{rank-low, all-may-run}
 use Rattle.runner.proofs.Running.{turns-end}
 use Rattle.runner.proofs.Kept.{Kept, kept-zeros, kept-all}
 
@@ -46,7 +46,7 @@ kept : (s : List ℕ) (v : Verdict) → checkSheet s ≡ v → Kept (M s) (ran v
 kept s (Refused why) e = kept-zeros (M s)
 kept s Accepted e = let low = rank-low s e in
     rw (less-no {x = 5} {a = header s .rank} low, size-is (header s .rank) (omega arith))
-    (kept-all (header s) (commands (placed s)) start (all-in-range s e) (kept-zeros _))
+    (kept-all (header s) (commands (placed s)) start (all-may-run s e) (kept-zeros _))
 
 keeps : (s x : List ℕ) → Keeps (answerReport (runCall s x .answer)) x (runCall s x .lent)
 unfolding runCall runVerdict
@@ -75,7 +75,7 @@ runs s = let k = kept s (checkSheet s) refl in record {
   report = reports s (checkSheet s) refl (exactly s .report .near);
   begins = begins s (checkSheet s) (exactly s .report .near);
   refused = λ why e. rw e refl;
-  ranged = all-in-range s;
+  allowed = all-may-run s;
   folds = λ a x four. let t = turns-end s a x four in (t .ended, t .is);
   word = λ a. word s a;
   lent = keeps s;

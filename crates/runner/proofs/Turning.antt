@@ -19,9 +19,10 @@ use Rattle.sheet_format.specs.declared.Command.{Command}
 use Rattle.sheet_format.specs.declared.Command.the-variants.{End, Begin, Change, Show}
 use Rattle.sheet_format.specs.declared.Decoded.the-variants.{Found}
 use Rattle.sheet_format.proofs.Offsets.{found-within}
-use Rattle.sheet.specs.Check.{isEnd, inRange}
+use Rattle.sheet.specs.Check.{isEnd, inRange, mayRun}
 use Rattle.sheet.proofs.InRange.{low}
 use Rattle.sheet.proofs.CheckFrom.{checkFrom}
+use Rattle.sheet.proofs.Allowed.{in-range}
 use Rattle.sheet.proofs.Accepted.{Next, accepted-start, accepted-next}
 use Rattle.machine.specs.Step.{obey, cost}
 use Rattle.machine.proofs.Costs.{cost-small}
@@ -76,8 +77,11 @@ module _ {s : List ℕ} {h : Header} {k : Cursor} {x : List ℕ} where
     abbrev c : Command
     c = next .command
 
+    runs : mayRun h c ≡ true
+    runs = ap (λ h. mayRun h c) (a .header-is) ∙ next .runs
+
     range : inRange (h .rank) c ≡ true
-    range = ap (λ h. inRange (h .rank) c) (a .header-is) ∙ next .range
+    range = in-range h c runs
 
     within : (k .at < next .after) × (next .after ≤ length s)
     within = found-within s (k .at) (next .stands)
@@ -90,7 +94,7 @@ module _ {s : List ℕ} {h : Header} {k : Cursor} {x : List ℕ} where
 
     made : turnCall s h k x ≡ record { answer = onward c (moved h k c (next .after)); lent = obey h c x }
     unfolding turnCall obeys fits
-    made = rw (next .stands, range, same-yes (a .four), less-yes {x = k .count + cost (h .rank) c} {a = 2 ^ 64} (omega (arith, few, a .short, within))) refl
+    made = rw (next .stands, runs, same-yes (a .four), less-yes {x = k .count + cost (h .rank) c} {a = 2 ^ 64} (omega (arith, few, a .short, within))) refl
 
     turn-is : {o : Outcome Turned (List ℕ)} → turnCall s h k x ≡ o → record { answer = onward c (moved h k c (next .after)); lent = obey h c x } ≡ o
     turn-is e = sym made ∙ e

@@ -9,7 +9,7 @@
 --   given v x             the verdict and the state as they are given back
 --   runSheet s            what the run of a sheet gives back
 --   finishedReport f      number, place and count of what is given back
---   runVerdict s x        9 to 14: on the sheet; then 8: on lent registers x, which are to be 4 × 720 words
+--   runVerdict s x        9 to 15: on the sheet; then 8: on lent registers x, which are to be 4 × 720 words
 --   runCall s x           the run of a sheet on lent registers
 use mathlib.Core.Bool.{not}
 use mathlib.Core.List.{List, [], _∷_}

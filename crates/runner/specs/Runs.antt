@@ -3,7 +3,7 @@
 --   finalWords s   the words of the registers after the sheet s
 --   M s            the words of an element of its rank, and 0 where no sheet has this rank
 --   Runs s         the claim: each register has 720 words and is zero past M; a refused sheet leaves all words zero and the count 0, by its report and by
---                  how its run begins; in an accepted sheet each command is in range, so that the step obeys it, turns from the first cursor on obey
+--                  how its run begins; in an accepted sheet each command may run, so that the step obeys it, turns from the first cursor on obey
 --                  all and come to the end, and the count is a word; on lent registers a refusal counts 0 and leaves them as they were
 use mathlib.Core.Path.{_≡_}
 use mathlib.Core.Bool.{true, cond}
@@ -16,7 +16,7 @@ use Rattle.refusals.specs.declared.Refusal.{Refusal}
 use Rattle.refusals.specs.declared.Verdict.the-variants.{Accepted, Refused}
 use Rattle.ranks.specs.Ranks.{size}
 use Rattle.sheet_format.specs.Format.{header}
-use Rattle.sheet.specs.Check.{inRange, placed, commands, checkSheet}
+use Rattle.sheet.specs.Check.{mayRun, placed, commands, checkSheet}
 use Rattle.machine.specs.Registers.{register}
 use Rattle.runner.specs.Run.{start, obeyAll, obeyed, ran, runSheet, finishedReport, runCall}
 use Rattle.runner.specs.Turn.{state, first, begunReport, beginCall, turns}
@@ -34,7 +34,7 @@ pub record Runs (s : List ℕ) : Type 0 where
   pub report : Refuses (finishedReport (runSheet s))
   pub begins : Refuses (begunReport (beginCall s))
   pub refused : (why : Refusal) → checkSheet s ≡ Refused why → ran (checkSheet s) s ≡ start
-  pub ranged : checkSheet s ≡ Accepted → All (λ c. inRange (header s .rank) c ≡ true) (commands (placed s))
+  pub allowed : checkSheet s ≡ Accepted → All (λ c. mayRun (header s) c ≡ true) (commands (placed s))
   pub folds : checkSheet s ≡ Accepted → (x : List ℕ) → length x ≡ 2880 → let o = turns (length s) s (header s) first x in (o .last ≡ Ended)
       × (state (o .cursor) (o .contents) ≡ obeyAll (header s) (commands (placed s)) (record { contents = x; count = 0 }))
   pub word : checkSheet s ≡ Accepted → obeyed s .count < 2 ^ 64

@@ -6,7 +6,7 @@
 --   begunReport b         number, place and count of how a run begins
 --   beginCall s           how a run of the sheet s begins: with its header and the first cursor, or with its refusal
 --   fits h k c            the count of the command c can be added to that of the cursor k: their sum is a word
---   obeys h k c x         the command is obeyed on the registers x: it is in range, these are 4 × 720 words, and its count fits
+--   obeys h k c x         the command is obeyed on the registers x: it may run, these are 4 × 720 words, and its count fits
 --   moved h k c after     the cursor after the command, where `after` is the offset after it
 --   onward c k            how a run goes on after the command, with the cursor k after it
 --   turnOf h k found x    what a turn answers and leaves, where `found` stands at the cursor; nothing is done where that is not obeyed
@@ -32,7 +32,7 @@ use Rattle.sheet_format.specs.declared.Header.{Header}
 use Rattle.sheet_format.specs.declared.Command.{Command}
 use Rattle.sheet_format.specs.declared.Decoded.{Decoded}
 use Rattle.sheet_format.specs.declared.Decoded.the-variants.{Found, NoCommand, Short, Nothing}
-use Rattle.sheet.specs.Check.{isEnd, inRange, placedFrom, commands, firstRefusal, checkSheet}
+use Rattle.sheet.specs.Check.{isEnd, mayRun, placedFrom, commands, firstRefusal, checkSheet}
 use Rattle.machine.specs.Step.{obey, cost}
 use Rattle.runner.specs.Run.{State}
 use Rattle.runner.specs.declared.Cursor.{Cursor}
@@ -62,7 +62,7 @@ unfoldable pub fits : Header → Cursor → Command → Bool
 fits h k c = less (k .count + cost (h .rank) c) (2 ^ 64)
 
 unfoldable pub obeys : Header → Cursor → Command → List ℕ → Bool
-obeys h k c x = inRange (h .rank) c && same (length x) 2880 && fits h k c
+obeys h k c x = mayRun h c && same (length x) 2880 && fits h k c
 
 abbrev pub moved : Header → Cursor → Command → ℕ → Cursor
 moved h k c after = record { at = after; count = k .count + cost (h .rank) c }

@@ -83,7 +83,7 @@ fn run_on(sheet: &[u8], x: &mut [u64], header: Header, first: Cursor) -> refusal
 
 // The run of a sheet on lent registers of 4 x 720 words, register r from 720 r on, whatever they held: the element of rank m
 // at the front of each, and zeros past it; the count of all commands.
-// Refused: 9 to 14 as the check of a sheet; 8 registers of another size.
+// Refused: 9 to 15 as the check of a sheet; 8 registers of another size.
 // Example: document 01's sheet makes 3 2 and zeros of register 0, and counts 6.
 pub fn run_into(sheet: &[u8], x: &mut [u64]) -> refusals::Answer
     ensures { λ a. ⌜ runCall (now (sheet .entry)) (now (x .entry)) ≡ record { answer = a; lent = now (x .exit) } ⌝ }

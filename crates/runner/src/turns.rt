@@ -13,7 +13,7 @@ use sheet_format::Decoded;
 use sheet_format::Header;
 
 // How a run of a sheet begins. The sheet is checked whole: it is refused, or has its header and the first cursor.
-// Refused: 9 to 14 as the check of a sheet.
+// Refused: 9 to 15 as the check of a sheet.
 // Example: document 01's sheet begins with rank 1 and q = 3, at offset 0 and the count 0.
 pub fn begin(sheet: &[u8]) -> Begun
     ensures { λ r. ⌜ r ≡ beginCall (now (sheet .entry)) ⌝ }

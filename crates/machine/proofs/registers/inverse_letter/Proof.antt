@@ -1,10 +1,6 @@
 -- One call of hecke on the element, as it is lent. Rests on Put, NegatedLetter and InverseTaken.
-use mathlib.Core.Path.{sym, ap, _∙_}
-use mathlib.Core.List.{List, [], _∷_}
 use native.Mathlib.Omega.{arith}
 use borrow.Author.Needs.{needs}
-use lib.IntN.{ℤ}
-use Rattle.element_calls.specs.Calls.{actSignedWordCall}
 use Rattle.machine.proofs.Put.{inside, lent, back}
 use Rattle.machine.proofs.NegatedLetter.{negates, negated-is}
 use Rattle.machine.proofs.InverseTaken.{inverse-taken}
@@ -31,10 +27,8 @@ returns c =
     let start = known called .before in
     let z = start .pre .0 in
     let u = start .args in
-    let is = negated-is (u .i) (omega (arith, z .most, z .registers .low)) in
-    let done = inverse-taken (z .registers .low) (u .q) (start .pre .1) (u .i) (record { low = z .least; high = z .most })
-    (lent (z .registers) (z .one) (known called .slice-known .given))
-    (ap (λ w. actSignedWordCall (u .m) (u .q) (w ∷ []) _) (sym is) ∙ call .ensures) in
+    let done = inverse-taken (u .q) (u .i) (z .registers .low) (start .pre .1) (record { low = z .least; high = z .most })
+    (lent (z .registers) (z .one) (known called .slice-known .given)) (negated-is (u .i) (omega (arith, z .most, z .registers .low))) (call .ensures) in
     back (z .registers) (z .one) (call .kept .1 .1 .1 .0) (done .writes)
 
 pub inverse-letter-spec : {M : Type 1} → statement M
