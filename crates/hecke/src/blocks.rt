@@ -107,7 +107,7 @@ pub(crate) fn exchange_forward(x: &mut [u64], b: usize, p: Parameters)
 }
 
 // In the place of two blocks s and t of b words: t + r s and q s, from the end.
-fn exchange_backward(x: &mut [u64], b: usize, p: Parameters)
+pub(crate) fn exchange_backward(x: &mut [u64], b: usize, p: Parameters)
     requires { ⌜ length (now x) ≡ b + b ⌝ }
     ensures { λ _. ⌜ now (x .exit) ≡ exchanged (exchanging Backward p) b (now (x .entry)) ⌝ }
 {

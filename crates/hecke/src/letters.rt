@@ -5,6 +5,7 @@ ghost use Prim.Native.Nat.{ℕ};
 ghost use Rattle.lists.specs.Blocks.{block, blocks};
 ghost use Rattle.algebra.specs.Product.{act};
 ghost use Rattle.element_calls.specs.Coefficients.{ring};
+ghost use Rattle.hecke.specs.declared.blocks.Way.the-variants.{Forward, Backward};
 ghost use Rattle.hecke.specs.Steps.{lettered, signedLettered, signedActed, LetterPre, EachLetterPre, LettersPre, SignedLetterPre, SignedLettersPre};
 use crate::blocks;
 use crate::blocks::Way;
@@ -67,13 +68,38 @@ fn letter_of_rank_two(x: &mut [u64], j: usize, way: Way, p: Parameters)
     requires { ⌜ LetterPre 2 j (now x) ⌝ }
     ensures { λ _. ⌜ now (x .exit) ≡ lettered way p 2 j (now (x .entry)) ⌝ }
 {
+    match way {
+        Way::Forward => forward_of_rank_two(x, j, p),
+        Way::Backward => backward_of_rank_two(x, j, p),
+    }
+}
+
+// x T_j in the place of x, of rank 2.
+fn forward_of_rank_two(x: &mut [u64], j: usize, p: Parameters)
+    requires { ⌜ LetterPre 2 j (now x) ⌝ }
+    ensures { λ _. ⌜ now (x .exit) ≡ lettered Forward p 2 j (now (x .entry)) ⌝ }
+{
     if j == 1 {
-        blocks::exchange(&mut x[0..2], 1, way, p);
-        blocks::exchange(&mut x[2..], 2, way, p);
+        blocks::exchange_forward(&mut x[0..2], 1, p);
+        blocks::exchange_forward(&mut x[2..], 2, p);
         return;
     }
-    blocks::exchange(&mut x[0..4], 2, way, p);
-    blocks::exchange(&mut x[4..], 1, way, p);
+    blocks::exchange_forward(&mut x[0..4], 2, p);
+    blocks::exchange_forward(&mut x[4..], 1, p);
+}
+
+// x times the inverse of T_j in the place of x, of rank 2.
+fn backward_of_rank_two(x: &mut [u64], j: usize, p: Parameters)
+    requires { ⌜ LetterPre 2 j (now x) ⌝ }
+    ensures { λ _. ⌜ now (x .exit) ≡ lettered Backward p 2 j (now (x .entry)) ⌝ }
+{
+    if j == 1 {
+        blocks::exchange_backward(&mut x[0..2], 1, p);
+        blocks::exchange_backward(&mut x[2..], 2, p);
+        return;
+    }
+    blocks::exchange_backward(&mut x[0..4], 2, p);
+    blocks::exchange_backward(&mut x[4..], 1, p);
 }
 
 // The letters act on x one by one.
