@@ -56,10 +56,33 @@ fn each_of_rank_two(x: &mut [u64], n: usize, j: usize, way: Way, p: Parameters)
     requires { ⌜ EachLetterPre 2 6 n j (now x) ⌝ }
     ensures { λ _. ⌜ now (x .exit) ≡ blocks n (λ k. lettered way p 2 j (block 6 k (now (x .entry)))) ⌝ }
 {
+    match way {
+        Way::Forward => each_forward(x, n, j, p),
+        Way::Backward => each_backward(x, n, j, p),
+    }
+}
+
+// T_j acts on each of the n blocks of x, of rank 2.
+fn each_forward(x: &mut [u64], n: usize, j: usize, p: Parameters)
+    requires { ⌜ EachLetterPre 2 6 n j (now x) ⌝ }
+    ensures { λ _. ⌜ now (x .exit) ≡ blocks n (λ k. lettered Forward p 2 j (block 6 k (now (x .entry)))) ⌝ }
+{
     for k in 0..n {
         let at = k * 6;
         let end = at + 6;
-        letter_of_rank_two(&mut x[at..end], j, way, p);
+        forward_of_rank_two(&mut x[at..end], j, p);
+    }
+}
+
+// The inverse of T_j acts on each of the n blocks of x, of rank 2.
+fn each_backward(x: &mut [u64], n: usize, j: usize, p: Parameters)
+    requires { ⌜ EachLetterPre 2 6 n j (now x) ⌝ }
+    ensures { λ _. ⌜ now (x .exit) ≡ blocks n (λ k. lettered Backward p 2 j (block 6 k (now (x .entry)))) ⌝ }
+{
+    for k in 0..n {
+        let at = k * 6;
+        let end = at + 6;
+        backward_of_rank_two(&mut x[at..end], j, p);
     }
 }
 
