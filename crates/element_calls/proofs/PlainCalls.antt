@@ -1,4 +1,5 @@
--- A word with no letter below 0 is answered as that word of plain letters. Rests on SignedVerdicts and signed_words' PlainWords.
+-- A word with no letter below 0 is answered as that word of plain letters. Rests on WordChecks, SignedVerdicts and
+-- signed_words' PlainWords.
 use mathlib.Core.Path.{_≡_, refl, ap, ap₂, _∙_, fun-ext}
 use mathlib.Core.Bool.{_||_}
 use mathlib.Core.Logic.{inl}
