@@ -78,7 +78,7 @@ def on_product(m, q, h, g, more=0, scratch=0):
 
 
 def on_all(m, q, h, g, word):
-    """Each of the four calls."""
+    """Each call but that of signed words."""
     yield on_sum(m, h, g)
     yield on_scale(m, q, h)
     yield on_word(m, q, h, word)

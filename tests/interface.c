@@ -290,7 +290,7 @@ static uint64_t act_signed_on_unit(size_t m, uint64_t q, const int8_t *word, siz
 #define FIGURE_EIGHT 3 * B * B, 2 * B * B, B, 2 * THIRD * B, THIRD, 0
 
 static void signed_word_actions(void) {
-    const int8_t there[] = {1, 1, -1}, eight[] = {1, -2, 1, -2, 2, -1, 2, -1}, turned[] = {-1, 1};
+    const int8_t there[] = {1, 1, -1}, eight[] = {1, -2, 1, -2}, back[] = {2, -1, 2, -1}, turned[] = {-1, 1};
     const int8_t bad[] = {-1, 3, 0}, below[] = {1, -3}, least[] = {-1, -128}, zero[] = {-2, 0}, late[] = {1, 2, -2, -1};
     static int8_t longest[4097];
     for (size_t i = 0; i < sizeof longest; i++) longest[i] = i % 2 == 0 ? 1 : -1;
@@ -303,7 +303,9 @@ static void signed_word_actions(void) {
     GIVES(act_signed_on_unit(1, UINT64_MAX, turned, 1), WORDS_ARE(UINT64_MAX - 1, UINT64_MAX), ANSWERS(3));
     GIVES(act_signed_on_unit(2, 3, eight, 0), WORDS_ARE(1, 0, 0, 0, 0, 0), ANSWERS(0));
     GIVES(act_signed_on_unit(2, 3, eight, 4), WORDS_ARE(FIGURE_EIGHT), ANSWERS(36));
-    GIVES(act_signed_on_unit(2, 3, eight, 8), WORDS_ARE(1, 0, 0, 0, 0, 0), ANSWERS(72));
+    /* the figure-eight, and in a second call its mirror word read backwards */
+    GIVES(act_signed_on_unit(2, 3, eight, 4) || hecke_act_signed_word(2, 3, SIGNED(back), WORDS(6), ANSWER),
+          WORDS_ARE(1, 0, 0, 0, 0, 0), ANSWERS(36));
     GIVES(act_signed_on_unit(1, 3, longest, 4096), WORDS_ARE(1, 0), ANSWERS(12288));
     GIVES(act_signed_on_unit(1, 3, longest, 4095), WORDS_ARE(0, 1), ANSWERS(12285));
     GIVES(act_signed_on_unit(1, 2, there, 2), WORDS_ARE(2, 1), ANSWERS(6));

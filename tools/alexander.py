@@ -13,8 +13,8 @@ standard word is, up to the sign of an odd number of letters, the braid's matrix
 a sign and a power of q, where A is the Alexander polynomial.
 
 All this is modulo 2^64. Times q for each inverse letter it is a polynomial in q with whole coefficients. The absolute values in
-a row of S, or of q times its inverse, add up to at most 2q + 1, and so they do in its matrices of minors: the polynomial's value
-is at most 2^m (2q + 1)^letters, and where this is below 2^63 the word gives the value itself.
+a row of S, and of each of its matrices of minors, add up to at most 2q + 1; so do those of its inverse, times q. So the
+polynomial's value is at most 2^m (2q + 1)^letters, and where this is below 2^63 the word gives the value itself.
 """
 import sys
 from math import prod

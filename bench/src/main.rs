@@ -30,8 +30,8 @@ fn main() -> io::Result<()> {
             println!("{} cases: all contenders agree", rows.len());
         }
         [] => {
-            let rows = cases::rows(true);
-            println!("{}\n{}\n{}", page::table(&rows), page::signs(&cases::all_signs()), page::aims(&rows));
+            let (rows, all) = (cases::rows(true), cases::all_signs());
+            println!("{}\n{}\n{}", page::table(&rows), page::signs(&all), page::aims(&rows, &all));
         }
         ["--write"] => {
             let page = page::page(&cases::rows(true), &cases::all_signs());

@@ -34,11 +34,13 @@ All results, and the scratch after a product, are compared before the clock star
 on the same of eight random inputs; a time is the mean over a batch of calls, the least over all rounds with the median in
 brackets. Result slices hold what the call before left: nothing is cleared for a call. Every product clears the first (m + 6) M
 words of its scratch at its end, as document 01 asks, and this is timed. A word's element is copied from the input first, which
-is timed too. A signed word has an odd q and letters with random signs; the inverse of q, which the library counts as free, is found
-in each call and timed. In the table of letters both ways the library's two calls take turns on the same letters. Of one point nothing is converted: these rows are what a call costs by itself, its checks and its returned word.
-Up to 8 points it is a large part of the time, and the ratios there change with the layout of both programs: builds before this
-page gave 1.2 to 1.8 for tower to image list at 4 points, at 9 to 12 ns for (a). A sheet is one process: its start and both
-pipes are timed. Ratios are those of the least times.
+is timed too. A signed word has an odd q and letters with random signs; the inverse of q, which the library counts as free, is
+found in each call and timed. In the table of letters both ways the library's two calls take turns on the same letters. A sheet
+is one process: its start and both pipes are timed. Ratios are those of the least times.
+
+Towers: of one point nothing is converted, and these rows are what a call costs by itself, its checks and its returned word. Up
+to 8 points it is a large part of the time, and the ratios there change with the layout of both programs: builds before this
+page gave 1.2 to 1.8 for tower to image list at 4 points, at 9 to 12 ns for (a).
 
 ## What the inner loops compile to
 
@@ -139,7 +141,7 @@ pub fn signs(all: &[Signs]) -> String {
 }
 
 /// The aims, with what was measured and whether it holds.
-pub fn aims(rows: &[Row]) -> String {
+pub fn aims(rows: &[Row], all: &[Signs]) -> String {
     let largest = |call: &str, lower: &str| {
         let ratios = rows.iter().filter(|row| row.call == call).filter_map(|row| row.ratio("library", lower));
         ratios.fold(0.0, f64::max)
@@ -160,6 +162,9 @@ pub fn aims(rows: &[Row]) -> String {
     let (three, high) = (beside_c("rank 3"), beside_c("rank 5").max(beside_c("rank 6")));
     aims.push(("product of rank 3: library / C at most 1.15", three, three <= 1.15));
     aims.push(("product of ranks 5 and 6: library / C at most 1.03", high, high <= 1.03));
+    let both_ways = all.iter().filter(|signs| (3..=6).contains(&signs.m));
+    let signed = both_ways.map(|signs| signs.signed.least / signs.plain.least).fold(0.0, f64::max);
+    aims.push(("signed / plain letters at most 1.05 at ranks 3 to 6", signed, signed <= 1.05));
     if cfg!(before) {
         let (product, word) = (largest("product", "before"), largest("word of 100 letters", "before"));
         aims.push(("product: library / before at most 1.02 at each rank", product, product <= 1.02));
@@ -191,6 +196,6 @@ fn machine() -> String {
 
 /// The whole page.
 pub fn page(rows: &[Row], all: &[Signs]) -> String {
-    let (machine, times, signs, aims) = (machine(), table(rows), signs(all), aims(rows));
+    let (machine, times, signs, aims) = (machine(), table(rows), signs(all), aims(rows, all));
     format!("{HEAD}\n{machine}\n## Times\n\n{times}\n## Letters both ways\n\n{signs}\n## Aims\n\n{aims}{TERMS}")
 }

@@ -1,4 +1,4 @@
--- Where 15 is answered. Rests on Earlier, InverseVerdicts, Answers, lists' Test and First, and inverses' Odd and Search.
+-- Where 15 is answered. Rests on Earlier, InverseVerdicts, Answers, lists' Test and First, and inverses' Odd.
 use mathlib.Core.Path.{_≡_, refl, sym, ap, _∙_}
 use mathlib.Core.Logic.{_↔_}
 use mathlib.Core.Bool.{Bool, true, false, not, _&&_}
@@ -10,9 +10,8 @@ use lib.IntN.{ℤ, pos}
 use Rattle.ring.specs.Modular.{wordModulus}
 use Rattle.lists.specs.Lists.{bit, less, first}
 use Rattle.lists.proofs.Test.{LessView, lt, ge, less?, SameView, is, isnt, same?, less-true}
-use Rattle.lists.proofs.First.{passed, first-holds}
+use Rattle.lists.proofs.First.{passed, first-holds, first-true}
 use Rattle.inverses.specs.Inverses.{hasInverse}
-use Rattle.inverses.proofs.Search.{first-true}
 use Rattle.inverses.proofs.Odd.{word-inverses}
 use Rattle.refusals.specs.Refusals.{_then_, unless, verdictReport}
 use Rattle.refusals.specs.declared.Refusal.the-variants as R

@@ -1,4 +1,5 @@
--- A word with no letter below 0 is answered as that word of plain letters. Rests on SignedVerdicts and signed_words' PlainWords.
+-- A word with no letter below 0 is answered as that word of plain letters. Rests on WordChecks, SignedVerdicts,
+-- refusals' Verdicts and signed_words' PlainWords.
 use mathlib.Core.Path.{_≡_, refl, ap, ap₂, _∙_, fun-ext}
 use mathlib.Core.Bool.{_||_}
 use mathlib.Core.Logic.{inl}
@@ -9,8 +10,7 @@ use lib.IntN.{pos, natAbs}
 use Rattle.lists.specs.Lists.{same, less}
 use Rattle.lists.specs.Numbers.{factorial}
 use Rattle.refusals.specs.Refusals.{_then_}
-use Rattle.refusals.specs.declared.Verdict.{Verdict}
-use Rattle.refusals.specs.declared.Verdict.the-variants.{Accepted, Refused}
+use Rattle.refusals.proofs.Verdicts.{then-accepted}
 use Rattle.signed_words.specs.Words.{isBelow}
 use Rattle.signed_words.proofs.PlainWords.{plain}
 use Rattle.element_calls.specs.Coefficients.{ring, parametersOf, inverseParameters}
@@ -29,10 +29,6 @@ pos-plain (i ∷ x) = (refl, pos-plain x)
 letters-same : (m : ℕ) (x : List ℕ) → signedWordVerdict m (map pos x) ≡ wordVerdict m x
 unfolding signedWordVerdict firstBadSigned wordVerdict firstBadLetter
 letters-same m x = ap₂ searched (fun-ext (λ i. ap (λ z. same (natAbs z) 0 || less m (natAbs z)) (List·getD-map pos x i 0))) (length-map x pos)
-
-then-accepted : (v : Verdict) → (v then Accepted) ≡ v
-then-accepted Accepted = refl
-then-accepted (Refused why) = refl
 
 checks-same : (m n q : ℕ) (x : List ℕ) → signedVerdict m n q (map pos x) ≡ (rankVerdict m then sizeVerdict m n then wordVerdict m x)
 checks-same m n q x =

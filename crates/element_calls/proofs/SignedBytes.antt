@@ -1,7 +1,7 @@
--- Signed bytes as integers: read back as they are, widened, negated, without their sign. Rests on the definitions alone.
+-- Signed bytes as integers: read back as they are, widened, negated, without their sign. Rests on lists' Test.
 use mathlib.Core.Path.{_≡_, refl, sym, ap, _∙_, subst}
 use mathlib.Core.Bool.{Bool, true, false}
-use Prim.Native.Nat.{ℕ, suc, _<_}
+use Prim.Native.Nat.{ℕ, _<_}
 use native.Mathlib.Omega.{arith}
 use lib.Dec.{T, ltb, ltb→lt}
 use lib.IntN.{ℤ, pos, negsuc, natAbs, _-ℤ_}

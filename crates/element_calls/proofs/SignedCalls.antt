@@ -1,4 +1,5 @@
--- The claims on the action of words of signed letters hold. Rests on SignedHome, InverseCalls, SignedCounts, PlainCalls, NoInverses and Answers.
+-- The claims on the action of words of signed letters hold. Rests on SignedHome, InverseCalls, SignedCounts, PlainCalls, NoInverses,
+-- Answers and signed_words' Mirrors.
 use mathlib.Core.Path.{_≡_, subst}
 use mathlib.Core.Logic.{_⊎_, inl, inr}
 use mathlib.Core.Bool.{true}

@@ -76,7 +76,8 @@ module _ (m q : ℕ) where
     pub count : (x : List ℤ) (h : List ℕ) → Taken (actSignedWordCall m q x h .answer)
         → actSignedWordCall m q x h .answer .count ≡ length x * (3 * factorial (suc m) / 2)
     pub letter-count : (z : ℤ) (h : List ℕ) → SignedLetter m z → E m q h → 2 * operations (counted m q z h .count) ≡ 3 * factorial (suc m)
-    pub letter-value : q % 2 ≡ 1 → (z : ℤ) (h : List ℕ) → SignedLetter m z → E m q h → counted m q z h .value ≡ actSignedWordCall m q (z ∷ []) h .lent
+    pub letter-value : (z : ℤ) (h : List ℕ) → SignedLetter m z → E m q h → (q % 2 ≡ 1) ⊎ (isBelow z ≡ false)
+        → counted m q z h .value ≡ actSignedWordCall m q (z ∷ []) h .lent
 
 pub record SignedCalls : Type 0 where
   pub lawful : (m q : ℕ) → m ≤ 6 → Coefficient (parametersOf q) q → SignedLawful m q

@@ -1,4 +1,4 @@
-// What the four element calls check and answer: the checks, and the parameters of the algebra. What a call answers and writes is
+// What the five element calls check and answer: the checks, and the parameters of the algebra. What a call answers and writes is
 // defined in specs/Calls; the work itself is in `linear` and `hecke`.
 
 ghost use mathlib.Core.Path.{_≡_};

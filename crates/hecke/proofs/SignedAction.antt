@@ -1,5 +1,4 @@
--- The signed letters of a word act one by one, as operators on pairs; and where q has an inverse or no letter is below 0, this is the action of the word.
--- Rests on algebra's OnPairs, and signed_words' SignedModular and PlainWords.
+-- The signed letters of a word act one by one, as operators on pairs. Rests on algebra's OnPairs.
 --
 --   SignedActing p p' m word x₀ x i   the first i letters of the word have acted on x₀, of rank m, which is now x
 use mathlib.Core.Path.{_≡_, refl, sym, ap, _∙_}

@@ -1,5 +1,5 @@
 -- The signed letters of a word, as operators on pairs, act as the word: where no letter is below 0, whatever is given for the inverse letters, and
--- where q has an inverse. So the parameters that are asked for suffice. Rests on algebra's Generator and Closed, signed_words' SignedModular,
+-- where q has an inverse. So the parameters that are asked for suffice. Rests on lists' Test, algebra's Generator, signed_words' SignedModular,
 -- inverses' Search, and element_calls' SignedVerdicts.
 use mathlib.Core.Path.{_≡_, refl, sym, ap, _∙_}
 use mathlib.Core.Logic.{_⊎_, inl, inr}
@@ -17,7 +17,7 @@ use Rattle.algebra.specs.Product.{letter}
 use Rattle.algebra.proofs.Generator.{letter-onPairs}
 use Rattle.signed_words.specs.Words.{SignedLetter, SignedWord, isBelow, signedLetter, signedAct}
 use Rattle.signed_words.proofs.SignedModular.{word-signed, word-signed-closed}
-use Rattle.inverses.specs.Inverses.{inverse, hasInverse}
+use Rattle.inverses.specs.Inverses.{hasInverse}
 use Rattle.inverses.proofs.Search.{inverses}
 use Rattle.element_calls.specs.declared.Parameters.{Parameters}
 use Rattle.element_calls.specs.Coefficients.{modulus, ring, parametersOf, inverseParameters}
@@ -25,7 +25,6 @@ use Rattle.element_calls.specs.Calls.{firstBelow}
 use Rattle.element_calls.specs.Steps.{askedParameters}
 use Rattle.element_calls.specs.Claims.{NoneBelow}
 use Rattle.element_calls.proofs.SignedVerdicts.{all-plain}
-use Rattle.hecke.specs.declared.blocks.Way.the-variants.{Forward, Backward}
 use Rattle.hecke.specs.Steps.{exchanging, signedLettered, signedActed}
 
 -- ---- no letter below 0

@@ -60,7 +60,7 @@ pub fn act_word(m: usize, q: u64, word: &[u8], element: &mut [u64]) -> Answer
 // for the inverse q' of q. 3M/2 ring operations a letter, either way.
 // Refused: 1 a rank above 6; 2 an element that is not M words; 4 a word of over 4,096 letters, or the first letter that is 0
 // or outside -m to m; 15 the first letter below 0, if q is even and so has no inverse.
-// Example: of rank 1 with q = 3, the word 1 -1 leaves 1 0 as it is.
+// Example: of rank 1 with q = 3, the word 1 1 -1 makes 0 1 of 1 0.
 pub fn act_signed_word(m: usize, q: u64, word: &[i8], element: &mut [u64]) -> Answer
     ensures { λ a. ⌜ actSignedWordCall m q (now (word .entry)) (now (element .entry)) ≡ record { answer = a; lent = now (element .exit) } ⌝ }
 {

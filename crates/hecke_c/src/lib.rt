@@ -136,7 +136,8 @@ pub extern "C" fn hecke_act_word(
 }
 
 // The word's signed letters act on the element of rank m, left to right, -i as the inverse of T_i; the answer is its count.
-// Example: of rank 1 with q = 3, the word 1 -1 leaves 1 0 as it is; it returns 0 and answers 6. For q = 2 it returns 15 + 256.
+// Example: of rank 1 with q = 3, the word 1 1 -1 makes 0 1 of 1 0; it returns 0 and answers 9. For q = 2 the word 1 -1 returns
+// 15 + 256.
 #[no_mangle]
 pub extern "C" fn hecke_act_signed_word(
     m: usize,

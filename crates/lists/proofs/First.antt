@@ -43,6 +43,18 @@ first-holds p a (suc n) k l h e = go (first-holds p (suc a) n k) (p a) refl
         later (is s g) = absurd (omega (arith, ap bit (sym f ∙ ap p s ∙ e)))
         later (isnt s g) = omega arith
 
+-- a search that ends before its end has found
+pub first-true : (p : ℕ → Bool) (n : ℕ) → first p 0 n < n → p (first p 0 n) ≡ true
+first-true p n l = go (p (first p 0 n)) refl
+  where
+    go : (b : Bool) → p (first p 0 n) ≡ b → b ≡ true
+    go true e = refl
+    go false e = absurd (omega (arith, first-past p 0 n (λ i a h. nowhere i (omega arith) (p i) refl)))
+      where
+        nowhere : (i : ℕ) → i < n → (b : Bool) → p i ≡ b → p i ≡ false
+        nowhere i h true f = absurd (omega (arith, ap bit (sym e ∙ first-holds p 0 n i (omega arith) (omega arith) f .0)))
+        nowhere i h false f = f
+
 -- ---- a loop that searches
 
 -- the search from 0 goes on from i

@@ -1,6 +1,6 @@
 -- An inverse letter is a signed word of one letter, which no check refuses where q has an inverse. Rests on Taken, and on element_calls'
 -- SignedVerdicts and Answers.
-use mathlib.Core.Path.{_≡_, sym, ap, _∙_}
+use mathlib.Core.Path.{_≡_, sym, _∙_}
 use mathlib.Core.Logic.{inr}
 use mathlib.Core.Bool.{true}
 use mathlib.Core.List.{List, [], _∷_}

@@ -25,7 +25,8 @@ fn update_cost(m: usize, update: Update) -> u64
     }
 }
 
-// The ring operations that a command will count in a sheet of the rank, known before it runs; 0 where the command is not in range.
+// The ring operations that a command counts in a sheet of the rank if it is obeyed; 0 where it is not in range (whether q has an
+// inverse is not judged here).
 // Example: a product of rank 1 counts 9.
 pub fn cost(rank: usize, command: Command) -> u64
     ensures { λ r. ⌜ r ≡ costCall rank command ⌝ }

@@ -32,6 +32,10 @@ unfolding passes
 accepts-unless false why e = refl
 accepts-unless true why e = absurd (omega (arith, ap passes e))
 
+pub then-accepted : (v : Verdict) → (v then Accepted) ≡ v
+then-accepted Accepted = refl
+then-accepted (Refused why) = refl
+
 -- a check r of two, a and b, that were found by x and y
 pub both : {r x y a b : Verdict} → r ≡ (x then y) → x ≡ a → y ≡ b → r ≡ (a then b)
 both e f g = e ∙ ap₂ _then_ f g

@@ -1,6 +1,6 @@
--- Refusals, for all calls and sheets (document 01, "Where each thing is checked").
+-- Document 01's table of refusals, with those of the later requests, for all calls and sheets (document 01, "Where each thing is checked").
 --
---   refusalNumber, refusalPlace   document 01's number and place of a refusal; the place is 0 where none is named
+--   refusalNumber, refusalPlace   the table's number and place of a refusal; the place is 0 where none is named
 --   v then w                      the first refusal of two verdicts
 --   unless bad why                refused if the test holds
 --   accepted n, refused why       the answers of a call that counts, with the count n, or 0

@@ -1,5 +1,5 @@
-// Document 01's table of refusals, for all calls and sheets: why something is refused, its number and its place, and verdicts
-// joined in the order of the checks.
+// Document 01's table of refusals, with those of the later requests, for all calls and sheets: why something is refused, its
+// number and its place, and verdicts joined in the order of the checks.
 
 ghost use mathlib.Core.Path.{_≡_};
 ghost use Rattle.refusals.specs.Refusals.{refusalNumber, refusalPlace, _then_, accepted, refused};
@@ -14,7 +14,7 @@ pub enum Refusal {
     Scratch,
     // A word of over 4,096 letters.
     Word,
-    // A letter, the first by its index, that is 0 or above the rank.
+    // A letter, the first by its index, that is 0 or above the rank; of signed letters, 0 or outside -m to m.
     Letter(usize),
     // An image list or a tower of a length that is not allowed, or two of unequal length.
     Length,
@@ -40,7 +40,7 @@ pub enum Refusal {
     NoInverse(usize),
 }
 
-// Document 01's number of a refusal.
+// The table's number of a refusal.
 // Example: an image that is seen twice has the number 6.
 pub fn number_of(why: Refusal) -> u8
     ensures { λ r. ⌜ r ≡ refusalNumber why ⌝ }
@@ -65,7 +65,7 @@ pub fn number_of(why: Refusal) -> u8
     }
 }
 
-// Document 01's place of a refusal.
+// The table's place of a refusal.
 // Example: the second image, of index 1, has the place 1.
 pub fn place_of(why: Refusal) -> usize
     ensures { λ r. ⌜ r ≡ refusalPlace why ⌝ }

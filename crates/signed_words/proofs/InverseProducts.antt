@@ -1,5 +1,5 @@
--- The inverse letter in a commutative ring is the product with q' T_i + r' 1, which is the inverse of T_i on both sides. Rests on InverseLetters and
--- algebra's Laws.
+-- The inverse letter in a commutative ring is the product with q' T_i + r' 1, which is the inverse of T_i on both sides. Rests on InverseLetters,
+-- algebra's Laws, Onto, Lists and Coefficients, and perms' Reduced.
 use mathlib.Core.Path.{_≡_, sym, ap, ap₂, _∙_}
 use mathlib.Core.List.{List, [], _∷_}
 use Prim.Native.Nat.{ℕ, suc}

@@ -1,5 +1,5 @@
--- What q q' = 1, r + 1 = q and r' + 1 = q' give in a commutative ring, and that `forward` and `backward` undo each other. Rests on ring's
--- Ring.
+-- What q q' = 1, r + 1 = q and r' + 1 = q' give in a commutative ring, and that `forward` and `backward` undo each other. Rests on Undone
+-- and ring's Ring.
 use mathlib.Core.Path.{_≡_, sym, ap, _∙_}
 use Rattle.ring.specs.Ring.{Ops, Ring}
 use Rattle.ring.proofs.Ring.{add-zero, add-cancel, mul-left-comm, zero-mul, add-mul}

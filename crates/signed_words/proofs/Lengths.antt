@@ -1,4 +1,5 @@
--- Letters and inverse letters keep the number of coefficients. Without any law of a ring. Rests on algebra's OnPairs and Lists.
+-- Letters and inverse letters keep the number of coefficients. Without any law of a ring. Rests on algebra's OnPairs, Generator and
+-- Lists.
 use mathlib.Core.Path.{_≡_, sym, ap, _∙_}
 use mathlib.Core.List.{List}
 use Prim.Native.Nat.{ℕ, suc}

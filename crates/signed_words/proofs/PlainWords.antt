@@ -1,6 +1,6 @@
 -- A word with no letter below 0 acts as a word of plain letters, so that it does not matter what q' and r' are. Rests on the definitions alone.
 use mathlib.Core.Path.{_≡_, refl, sym, ap, _∙_}
-use mathlib.Core.Bool.{true, false}
+use mathlib.Core.Bool.{false}
 use mathlib.Core.List.{List, [], _∷_, map}
 use Prim.Native.Nat.{ℕ}
 use native.Mathlib.Omega.{arith}

@@ -7,7 +7,7 @@ use Rattle.ring.specs.Ring.{Ops, Hom}
 use Rattle.lists.specs.Numbers.{factorial}
 use Rattle.lists.specs.Blocks.{block}
 use Rattle.lists.proofs.Blocks.{map-block}
-use Rattle.algebra.specs.Nested.{Counted, free, _⧺_, row, _⊞_, _⊠_}
+use Rattle.algebra.specs.Nested.{free, _⧺_, _⊞_, _⊠_}
 use Rattle.algebra.specs.Maps.{mapped, Along, Maps}
 use Rattle.algebra.proofs.NestedMaps.{map-free, map-join, map-row, maps}
 use Rattle.signed_words.specs.InverseLetter.{Inverted, inverseLetter, inverseT, backward}

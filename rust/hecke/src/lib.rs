@@ -1,11 +1,11 @@
 //! The library's calls over safe slices: permutations, towers, elements of the Iwahori-Hecke algebra of type A, and run sheets.
 //!
-//! A call answers `Err` with document 01's refusal, and then leaves every slice as it was, or `Ok` with what it counts or finds.
+//! A call answers `Err` with the refusal, and then leaves every slice as it was, or `Ok` with what it counts or finds.
 //! `include/hecke.h` says what a permutation, a tower and an element are as bytes and words, and what each call refuses.
 
 pub mod raw;
 
-/// A refusal: its number in document 01's table, and its place, 0 where none is named.
+/// A refusal: its number, as document 01's table or a later request has it, and its place, 0 where none is named.
 #[derive(Clone, Copy, Debug, PartialEq, Eq)]
 pub struct Refusal {
     pub number: u8,

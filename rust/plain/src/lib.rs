@@ -1,8 +1,8 @@
 //! Document 01 and the laboratory's later requests in plain Rust: an implementation that shares no code with the library, to
 //! compare the library with.
 //!
-//! The functions named here have the library's signatures. Each judges what it is given in the order of document 01's table,
-//! and writes only when nothing is refused. The modules also have the mathematics by itself, with no checks.
+//! The functions named here have the library's signatures. Each judges what it is given in the order of document 01's table and
+//! of the requests, and writes only when nothing is refused. The modules also have the mathematics by itself, with no checks.
 
 pub mod count;
 pub mod element;
@@ -13,7 +13,7 @@ pub use element::{act_signed_word, act_word, product, scale, sum};
 pub use perm::{images_of_tower, tower_descents, tower_inverse, tower_length, tower_of_images, tower_product, tower_word};
 pub use sheet::{check as sheet_check, run as run_sheet};
 
-/// A refusal: its number in document 01's table, and its place, 0 where none is named.
+/// A refusal: its number, as document 01's table or a later request has it, and its place, 0 where none is named.
 #[derive(Clone, Copy, Debug, PartialEq, Eq)]
 pub struct Refusal {
     pub number: u8,

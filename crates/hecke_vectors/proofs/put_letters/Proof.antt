@@ -3,7 +3,6 @@ use mathlib.Core.Path.{_≡_, refl, _∙_}
 use Prim.Native.Nat.{_≤_, _-_}
 use native.Mathlib.Omega.{arith}
 use lib.ListN.{length, length-set}
-use borrow.Author.Needs.{needs}
 use Rattle.hecke_vectors.proofs.put_letters.Statement.{statement}
 use Rattle.hecke_vectors.proofs.put_letters.Tie as tie
 

@@ -38,7 +38,7 @@ fn words_of_every_rank() {
     }
 }
 
-/// Every byte as a letter, on every basis element.
+/// Letters about the bounds on every basis element; every byte as a letter.
 #[test]
 fn letters() {
     for m in 0..=4 {
@@ -121,6 +121,10 @@ fn words_of_4096_and_4097_letters() {
     for m in 1..=4 {
         let (element, longest) = (random.words(size(m)), random.signed_letters(m, 4096));
         assert_eq!(act_signed_word(m, 3, &longest, &element), Ok(count(m, 4096)));
+        let mut home = element.clone();
+        assert_eq!(hecke::act_signed_word(m, 3, &longest, &mut home), Ok(count(m, 4096)[0]));
+        assert_eq!(hecke::act_signed_word(m, 3, &mirror(&longest), &mut home), Ok(count(m, 4096)[0]));
+        assert_eq!(home, element);
         assert_eq!(act_signed_word(m, 2, &longest, &element), due(m, 2, &longest));
         for (q, letters) in [(3, 4097), (2, 4097), (3, 100_000), (2, 100_000)] {
             let mut word = random.signed_letters(m, letters);

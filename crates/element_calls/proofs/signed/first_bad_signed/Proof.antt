@@ -1,8 +1,8 @@
--- The loop is the search for the first bad letter. Rests on SignedBytes and lists' First.
+-- The loop is the search for the first bad letter. Rests on SignedBytes, LetterTests and lists' First.
 use mathlib.Core.Path.{_≡_, sym, ap, _∙_}
 use mathlib.Core.Logic.{⊎-elim}
 use mathlib.Core.Bool.{true, _||_}
-use Prim.Native.Nat.{ℕ, _-_}
+use Prim.Native.Nat.{_-_}
 use native.Mathlib.Omega.{arith}
 use borrow.Author.Needs.{needs}
 use lib.ListN.{length, getD}

@@ -1,5 +1,4 @@
 -- The loop is the search for the first letter below 0. Rests on SignedBytes and lists' First.
-use mathlib.Core.Path.{_≡_, sym, ap, _∙_}
 use Prim.Native.Nat.{_-_}
 use native.Mathlib.Omega.{arith}
 use lib.ListN.{length, getD}

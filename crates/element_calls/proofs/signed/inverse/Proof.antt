@@ -1,8 +1,6 @@
--- A word without a letter below 0 needs no inverse. Rests on lists' Test.
-use mathlib.Core.Path.{_≡_, sym, _∙_}
+-- A word without a letter below 0 needs no inverse. Rests on InverseVerdicts.
+use mathlib.Core.Path.{sym, _∙_}
 use borrow.Author.Needs.{needs}
-use Rattle.lists.proofs.Test.{less-yes, less-no}
-use Rattle.element_calls.specs.Calls.{inverseVerdict}
 use Rattle.element_calls.proofs.InverseVerdicts.{has-one, none-below, some-below}
 use Rattle.element_calls.proofs.signed.inverse.Statement.{statement}
 use Rattle.element_calls.proofs.signed.inverse.Tie as tie

@@ -1,7 +1,6 @@
 -- The inverse is found where a letter asks for it. Rests on InverseVerdicts.
-use mathlib.Core.Path.{_≡_, sym, ap, _∙_}
+use mathlib.Core.Path.{sym, _∙_}
 use borrow.Author.Needs.{needs}
-use Rattle.element_calls.specs.Coefficients.{parametersOf}
 use Rattle.element_calls.proofs.InverseVerdicts.{asked-none, asked-one, asked-missing}
 use Rattle.element_calls.proofs.signed.inverse_parameters.Statement.{statement}
 use Rattle.element_calls.proofs.signed.inverse_parameters.Tie as tie

@@ -1,5 +1,5 @@
 -- A letter below 0 goes backward, any other forward. Rests on SignedAction and element_calls' SignedBytes.
-use mathlib.Core.Path.{_≡_, sym, ap, _∙_}
+use mathlib.Core.Path.{_≡_, ap, _∙_}
 use Prim.Native.Nat.{ℕ}
 use native.Mathlib.Omega.{arith}
 use borrow.Author.Needs.{needs}
