@@ -1,4 +1,4 @@
--- An operator on pairs of coefficients, on elements of rank 1 and 2, by the exchanges that are made, and on blocks of rank 2. For any operations o and
+-- An operator on pairs of coefficients, on elements of rank 1 and 2, by the exchanges that are made, and on blocks of rank 3. For any operations o and
 -- any operator f. Rests on algebra's LowRanks and lists' InRow.
 use mathlib.Core.Path.{_≡_, sym, ap, _∙_}
 use mathlib.Core.List.{List}
@@ -25,17 +25,17 @@ pub rank-two-size : {j : ℕ} {x : List ℕ} → LetterPre 2 j x → length x �
 unfolding factorial
 rank-two-size p = p .size
 
-pub rank-two-blocks : {m b n j : ℕ} {x : List ℕ} → m ≡ 2 → EachLetterPre m b n j x → b ≡ 6
+pub rank-three-blocks : {m b n j : ℕ} {x : List ℕ} → m ≡ 3 → EachLetterPre m b n j x → b ≡ 24
 unfolding factorial
-rank-two-blocks e p = p .block-size ∙ ap (λ (k : ℕ). factorial (suc k)) e
+rank-three-blocks e p = p .block-size ∙ ap (λ (k : ℕ). factorial (suc k)) e
 
-pub rank-two-pre : {m b n j : ℕ} {x : List ℕ} → m ≡ 2 → EachLetterPre m b n j x → EachLetterPre 2 6 n j x
+pub rank-three-pre : {m b n j : ℕ} {x : List ℕ} → m ≡ 3 → EachLetterPre m b n j x → EachLetterPre 3 24 n j x
 unfolding factorial
-rank-two-pre {m} {b} {n} {j} e p = record {
+rank-three-pre {m} {b} {n} {j} e p = record {
   rank = omega arith;
   block-size = omega arith;
   letter = λ h. let l : Letter m j = p .letter h in record { low = l .low; high = omega (arith, l .high) };
-  size = p .size ∙ ap (λ (k : ℕ). n * k) (rank-two-blocks e p);
+  size = p .size ∙ ap (λ (k : ℕ). n * k) (rank-three-blocks e p);
 }
 
 module _ (o : Ops ℕ) (f : OnPair ℕ) where
@@ -63,9 +63,9 @@ module _ (o : Ops ℕ) (f : OnPair ℕ) where
         both-back 4 x v₁ (omega (arith, size)) s (exchanged f 2) (exchanged f 1) e₁ e₂
         ∙ sym (rank-two-2 ℕ o f x size) ∙ ap (λ (i : ℕ). onPairs ℕ o f 2 i x) e
 
-  -- ---- blocks of rank 2
+  -- ---- blocks of rank 3
 
-  pub blocks-two : {m b n j : ℕ} {x v : List ℕ} → m ≡ 2 → EachLetterPre m b n j x → v ≡ blocks n (λ k. onPairs ℕ o f 2 j (block 6 k x))
+  pub blocks-three : {m b n j : ℕ} {x v : List ℕ} → m ≡ 3 → EachLetterPre m b n j x → v ≡ blocks n (λ k. onPairs ℕ o f 3 j (block 24 k x))
       → v ≡ blocks n (λ k. onPairs ℕ o f m j (block b k x))
-  blocks-two {m} {b} {n} {j} {x} e p h =
-      h ∙ (λ i. blocks n (λ k. onPairs ℕ o f (sym e i) j (block (sym (rank-two-blocks e p) i) k x)))
+  blocks-three {m} {b} {n} {j} {x} e p h =
+      h ∙ (λ i. blocks n (λ k. onPairs ℕ o f (sym e i) j (block (sym (rank-three-blocks e p) i) k x)))

@@ -18,6 +18,10 @@ pub(crate) fn letter(x: &mut [u64], m: usize, j: usize, way: Way, p: Parameters)
     requires { ⌜ LetterPre m j (now x) ⌝ }
     ensures { λ _. ⌜ now (x .exit) ≡ lettered way p m j (now (x .entry)) ⌝ }
 {
+    if m == 3 {
+        letter_of_rank_three(x, j, way, p);
+        return;
+    }
     if m == 2 {
         letter_of_rank_two(x, j, way, p);
         return;
@@ -40,8 +44,8 @@ fn each_letter(x: &mut [u64], m: usize, b: usize, n: usize, j: usize, way: Way, 
     requires { ⌜ EachLetterPre m b n j (now x) ⌝ }
     ensures { λ _. ⌜ now (x .exit) ≡ blocks n (λ k. lettered way p m j (block b k (now (x .entry)))) ⌝ }
 {
-    if m == 2 {
-        each_of_rank_two(x, n, j, way, p);
+    if m == 3 {
+        each_of_rank_three(x, n, j, way, p);
         return;
     }
     for k in 0..n {
@@ -51,15 +55,51 @@ fn each_letter(x: &mut [u64], m: usize, b: usize, n: usize, j: usize, way: Way, 
     }
 }
 
-// The same for blocks of rank 2.
-fn each_of_rank_two(x: &mut [u64], n: usize, j: usize, way: Way, p: Parameters)
-    requires { ⌜ EachLetterPre 2 6 n j (now x) ⌝ }
-    ensures { λ _. ⌜ now (x .exit) ≡ blocks n (λ k. lettered way p 2 j (block 6 k (now (x .entry)))) ⌝ }
+// The same for blocks of rank 3.
+fn each_of_rank_three(x: &mut [u64], n: usize, j: usize, way: Way, p: Parameters)
+    requires { ⌜ EachLetterPre 3 24 n j (now x) ⌝ }
+    ensures { λ _. ⌜ now (x .exit) ≡ blocks n (λ k. lettered way p 3 j (block 24 k (now (x .entry)))) ⌝ }
+{
+    for k in 0..n {
+        let at = k * 24;
+        let end = at + 24;
+        letter_of_rank_three(&mut x[at..end], j, way, p);
+    }
+}
+
+// The letter j on x, of rank 3.
+fn letter_of_rank_three(x: &mut [u64], j: usize, way: Way, p: Parameters)
+    requires { ⌜ LetterPre 3 j (now x) ⌝ }
+    ensures { λ _. ⌜ now (x .exit) ≡ lettered way p 3 j (now (x .entry)) ⌝ }
 {
     match way {
-        Way::Forward => each_forward(x, n, j, p),
-        Way::Backward => each_backward(x, n, j, p),
+        Way::Forward => forward_of_rank_three(x, j, p),
+        Way::Backward => backward_of_rank_three(x, j, p),
     }
+}
+
+// x T_j in the place of x, of rank 3.
+fn forward_of_rank_three(x: &mut [u64], j: usize, p: Parameters)
+    requires { ⌜ LetterPre 3 j (now x) ⌝ }
+    ensures { λ _. ⌜ now (x .exit) ≡ lettered Forward p 3 j (now (x .entry)) ⌝ }
+{
+    let low = (3 - j) * 6;
+    let high = low + 6 + 6;
+    each_forward(&mut x[0..low], 3 - j, j, p);
+    blocks::exchange_forward(&mut x[low..high], 6, p);
+    each_forward(&mut x[high..], j - 1, j - 1, p);
+}
+
+// x times the inverse of T_j in the place of x, of rank 3.
+fn backward_of_rank_three(x: &mut [u64], j: usize, p: Parameters)
+    requires { ⌜ LetterPre 3 j (now x) ⌝ }
+    ensures { λ _. ⌜ now (x .exit) ≡ lettered Backward p 3 j (now (x .entry)) ⌝ }
+{
+    let low = (3 - j) * 6;
+    let high = low + 6 + 6;
+    each_backward(&mut x[0..low], 3 - j, j, p);
+    blocks::exchange_backward(&mut x[low..high], 6, p);
+    each_backward(&mut x[high..], j - 1, j - 1, p);
 }
 
 // T_j acts on each of the n blocks of x, of rank 2.

@@ -15,8 +15,8 @@ pub +each-letter+letter-spec : {M : Type 1} → statement M
 +each-letter+letter-spec =
     close each-needs.μ-each each-needs.μ-letter
     (λ t. each-lts.spec (each-needs.claims t) (each-needs.asked t) each-letter.Post each-needs.Inv-loop each-needs.μ-loop
-    (each-needs.two-requires t)
-    (λ c. c .before .before .each-of-rank-two .kept .0)
+    (each-needs.three-requires t)
+    (λ c. c .before .before .each-of-rank-three .kept .0)
     (each-needs.returns t)
     (each-needs.loop-holds t)
     (λ c. omega (arith, each-needs.fits t c))
@@ -32,12 +32,15 @@ pub +each-letter+letter-spec : {M : Type 1} → statement M
     (λ c. c .before .loop .inv .1 .same)
     (each-needs.returns-2 t))
     (λ t. letter-lts.spec (letter-needs.claims t) (letter-needs.asked t) letter.Post
+    (letter-needs.three-requires t)
+    (λ c. c .before .before .letter-of-rank-three .kept .0)
+    (letter-needs.returns t)
     (letter-needs.two-requires t)
     (λ c. c .before .before .letter-of-rank-two .kept .0)
-    (letter-needs.returns t)
+    (letter-needs.returns-2 t)
     (letter-needs.exchange-requires t)
     (λ c. c .before .before .exchange .kept .0)
-    (letter-needs.returns-2 t)
+    (letter-needs.returns-3 t)
     (λ c. omega arith)
     (λ c κs. omega arith)
     (λ c. omega arith)
@@ -62,4 +65,4 @@ pub +each-letter+letter-spec : {M : Type 1} → statement M
     (λ c. omega arith)
     (letter-needs.high-requires t)
     (letter-needs.same-length t)
-    (letter-needs.returns-3 t))
+    (letter-needs.returns-4 t))

@@ -9,13 +9,13 @@ use borrow.Fn.PlainCycle.{Measures, is, falls, and}
 use Rattle.lists.proofs.Parts.{fits-block, part-size}
 use Rattle.lists.proofs.Passed.{Passed, passed-none, passed-more, passed-all}
 use Rattle.hecke.specs.Steps.{lettered}
-use Rattle.hecke.proofs.LowRanks.{rank-two-pre, blocks-two}
+use Rattle.hecke.proofs.LowRanks.{rank-three-pre, blocks-three}
 use Rattle.hecke.proofs.letters.each_letter.Reads as each-letter
 use Rattle.hecke.proofs.letters.each_letter.Kinds as each-letter-kinds
 use Rattle.hecke.proofs.letters.+each_letter+letter.Lts-each_letter as lts
 use Rattle.hecke.proofs.letters.letter.Reads as letter
 use Rattle.hecke.proofs.letters.letter.Kinds as letter-kinds
-use Rattle.hecke.proofs.letters.each_of_rank_two.Reads as each-two-reads
+use Rattle.hecke.proofs.letters.each_of_rank_three.Reads as each-three-reads
 
 abbrev pub μ-each : Measures 1 each-letter-kinds.ps ℕ
 μ-each κs a = a .1 .0 + a .1 .0 + 1
@@ -35,20 +35,20 @@ module _ (t : ℕ) where
 
   abbrev pub claims : lts.Claims
   claims = (
-    each-two-reads.Asked,
-    each-two-reads.Learnt,
+    each-three-reads.Asked,
+    each-three-reads.Learnt,
     and 1 letter-kinds.ps (falls 1 letter-kinds.ps _<_ μ-letter t) letter.Pre,
     letter.Post,
   )
 
-  pub two-requires : lts.Need-each-of-rank-two-requires claims asked each-letter.Post Inv-loop μ-loop
-  two-requires c κs = let test = c .before in rank-two-pre (test .if1 .taken) (test .before .before .pre .1)
+  pub three-requires : lts.Need-each-of-rank-three-requires claims asked each-letter.Post Inv-loop μ-loop
+  three-requires c κs = let test = c .before in rank-three-pre (test .if1 .taken) (test .before .before .pre .1)
 
   pub returns : lts.Need-returns claims asked each-letter.Post Inv-loop μ-loop
   returns c =
       let after = c .before .before in
       let test = after .before .before in
-      blocks-two _ _ (test .if1 .taken) (test .before .before .pre .1) (after .each-of-rank-two .ensures)
+      blocks-three _ _ (test .if1 .taken) (test .before .before .pre .1) (after .each-of-rank-three .ensures)
 
   -- the start, from the loop's head
   abbrev start : lts.At-loop claims asked each-letter.Post Inv-loop μ-loop → lts.Start claims asked each-letter.Post Inv-loop μ-loop
