@@ -1,4 +1,4 @@
--- Two lists taken together, and two blocks exchanged: lengths, entries, the exchange of two blocks of a longer list, and formula 4.1's exchange by sums
+-- Two lists taken together, and two blocks exchanged: lengths, entries, the exchange of two blocks of a longer list, and formula 4.1 on two lists by sums
 -- and multiples. Rests on the definitions alone.
 use mathlib.Core.Path.{_≡_, refl, sym, ap, ap₂, _∙_}
 use mathlib.Core.List.{List, [], _∷_, _++_}
@@ -30,7 +30,7 @@ module _ {A : Type 0} where
 
   -- ---- two blocks
 
-  pub halves : (b : ℕ) (x : List A) → length x ≡ b + b → length (take b x) ≡ length (drop b x)
+  halves : (b : ℕ) (x : List A) → length x ≡ b + b → length (take b x) ≡ length (drop b x)
   halves b x e = length-take-le b x (omega arith) ∙ sym (length-drop b x ∙ omega arith)
 
   pub exchanged-length : (f : OnPair A) (b : ℕ) (x : List A) → length x ≡ b + b → length (exchanged f b x) ≡ length x
@@ -77,9 +77,3 @@ module _ (A : Type 0) (o : Ops A) where
   zipped-longer q r [] y = refl
   zipped-longer q r (a ∷ x) [] = refl
   zipped-longer q r (a ∷ x) (b ∷ y) = ap {B = List A} (λ u. o .add a (o .mul r b) ∷ u) (zipped-longer q r x y)
-
-  pub exchanged-forward : (q r : A) (b : ℕ) (x : List A) → length x ≡ b + b
-      → exchanged (forward A o q r) b x ≡ scale A o q (drop b x) ++ plus A o (take b x) (scale A o r (drop b x))
-  unfolding exchanged
-  exchanged-forward q r b x e =
-      ap₂ {C = List A} (λ u v. u ++ v) (zipped-shorter q r (take b x) (drop b x) (halves b x e)) (zipped-longer q r (take b x) (drop b x))

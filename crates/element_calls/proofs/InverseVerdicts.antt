@@ -1,5 +1,5 @@
--- When check 15 refuses, and which parameters the inverse letters are given. Rests on lists' Test.
-use mathlib.Core.Path.{_≡_, refl, ap}
+-- When check 15 refuses, and which parameters the inverse letters are given. Rests on lists' Test and inverses' Answers.
+use mathlib.Core.Path.{_≡_, refl, ap, _∙_}
 use mathlib.Core.Bool.{Bool, true, false, cond, _&&_}
 use mathlib.Core.List.{List}
 use Prim.Native.Nat.{ℕ, _≤_, _<_}
@@ -10,10 +10,11 @@ use Rattle.ring.specs.Modular.{wordModulus}
 use Rattle.lists.specs.Lists.{less}
 use Rattle.lists.proofs.Test.{less-yes, less-no}
 use Rattle.inverses.specs.declared.Inverse.the-variants.{Is, None}
-use Rattle.inverses.specs.Inverses.{inverse, hasInverse, inverseOf}
+use Rattle.inverses.specs.Inverses.{hasInverse, inverseOf}
+use Rattle.inverses.proofs.Answers.{answered-is, answered-none}
 use Rattle.refusals.specs.declared.Refusal.the-variants.{NoInverse}
 use Rattle.refusals.specs.declared.Verdict.the-variants.{Accepted, Refused}
-use Rattle.element_calls.specs.Coefficients.{parametersOf, inverseParameters}
+use Rattle.element_calls.specs.Coefficients.{parametersOf}
 use Rattle.element_calls.specs.Calls.{firstBelow, inverseVerdict}
 use Rattle.element_calls.specs.Steps.{askedParameters}
 
@@ -45,18 +46,14 @@ module _ (q : ℕ) (x : List ℤ) where
   unfolding askedParameters
   asked-none e h = rw (less-no {x = firstBelow x} {a = length x} (omega (arith, e))) refl
 
-  pub asked-one : {i y : ℕ} → i ≡ firstBelow x → i < length x → inverseOf wordModulus q ≡ Is y → parametersOf y ≡ askedParameters q x
-  unfolding askedParameters inverseOf
-  asked-one {y = y} e h a = rw (less-yes {x = firstBelow x} {a = length x} (omega (arith, e))) (go (hasInverse wordModulus q) a)
-    where
-      go : (b : Bool) → cond b (Is (inverse wordModulus q)) None ≡ Is y → parametersOf y ≡ cond (true && b) (inverseParameters q) (parametersOf q)
-      go true a = let s : y ≡ inverse wordModulus q = cc in ap parametersOf s
-      go false a = let z : _≡_ {A = ℕ} 0 1 = cc in absurd (omega arith)
+  -- a letter below 0 is there
+  below-yes : {i : ℕ} → i ≡ firstBelow x → i < length x → below ≡ true
+  below-yes e h = less-yes {x = firstBelow x} {a = length x} (omega (arith, e))
 
-  pub asked-missing : {i : ℕ} → i ≡ firstBelow x → i < length x → inverseOf wordModulus q ≡ None → parametersOf q ≡ askedParameters q x
-  unfolding askedParameters inverseOf
-  asked-missing e h a = rw (less-yes {x = firstBelow x} {a = length x} (omega (arith, e))) (go (hasInverse wordModulus q) a)
-    where
-      go : (b : Bool) → cond b (Is (inverse wordModulus q)) None ≡ None → parametersOf q ≡ cond (true && b) (inverseParameters q) (parametersOf q)
-      go true a = let z : _≡_ {A = ℕ} 0 1 = cc in absurd (omega arith)
-      go false a = refl
+  pub asked-one : {i y : ℕ} → i ≡ firstBelow x → i < length x → Is y ≡ inverseOf wordModulus q → parametersOf y ≡ askedParameters q x
+  unfolding askedParameters
+  asked-one e h a = let found = answered-is wordModulus q a in ap parametersOf (found .1) ∙ rw (below-yes e h, found .0) refl
+
+  pub asked-missing : {i : ℕ} → i ≡ firstBelow x → i < length x → None ≡ inverseOf wordModulus q → parametersOf q ≡ askedParameters q x
+  unfolding askedParameters
+  asked-missing e h a = rw (below-yes e h, answered-none wordModulus q a) refl

@@ -1,5 +1,5 @@
 -- A word with no letter below 0 acts as a word of plain letters, so that it does not matter what q' and r' are. Rests on the definitions alone.
-use mathlib.Core.Path.{_≡_, refl, sym, ap, _∙_}
+use mathlib.Core.Path.{_≡_, refl, ap}
 use mathlib.Core.Bool.{false}
 use mathlib.Core.List.{List, [], _∷_, map}
 use Prim.Native.Nat.{ℕ}
@@ -21,10 +21,3 @@ module _ (A : Type 0) (o : Ops A) (q r : A) (m : ℕ) where
   plain-word a b [] h w = refl
   plain-word a b (pos i ∷ x) h w = plain-word a b x (letter A o q r m i h) (w .1)
   plain-word a b (negsuc i ∷ x) h w = absurd (omega (arith, ap bit (w .0)))
-
-  pub without-inverse : (a b c d : A) (x : List ℤ) (h : List A) → All (λ z. isBelow z ≡ false) x
-      → signedAct A o q r a b m x h ≡ signedAct A o q r c d m x h
-  without-inverse a b c d x h w = plain-word a b x h w ∙ sym (plain-word c d x h w)
-
-  pub plain-without-inverse : (a b c d : A) (x : List ℕ) (h : List A) → signedAct A o q r a b m (map pos x) h ≡ signedAct A o q r c d m (map pos x) h
-  plain-without-inverse a b c d x h = plain a b x h ∙ sym (plain c d x h)

@@ -11,13 +11,13 @@ returns c = let at = c .before in c .parameters-of .ensures ∙ asked-none _ _ (
 returns-2 : tie.Need-returns-2
 returns-2 c =
     let told = c .before in let found = told .before .before .before in let test = found .before in
-    c .parameters-of2 .ensures ∙ asked-one _ _ (test .before .first-below .ensures) (test .if1 .left) (sym (found .inverse-of .ensures) ∙ told .before .x .given .1)
+    c .parameters-of2 .ensures ∙ asked-one _ _ (test .before .first-below .ensures) (test .if1 .left) (sym (told .before .x .given .1) ∙ found .inverse-of .ensures)
 
 returns-3 : tie.Need-returns-3
 returns-3 c =
     let told = c .before in let found = told .before .before in let test = found .before in
     c .parameters-of3 .ensures
-    ∙ asked-missing _ _ (test .before .first-below .ensures) (test .if1 .left) (sym (found .inverse-of .ensures) ∙ told .enum-told .given .1)
+    ∙ asked-missing _ _ (test .before .first-below .ensures) (test .if1 .left) (sym (told .enum-told .given .1) ∙ found .inverse-of .ensures)
 
 pub inverse-parameters-spec : {M : Type 1} → statement M
 inverse-parameters-spec =
