@@ -9,7 +9,7 @@ use Prim.Native.Nat.{ℕ, suc, _+_, _≤_}
 use native.Mathlib.Nat.{le-add-right}
 use native.Mathlib.Omega.{arith}
 use lib.ListN.{length, getD, set, take, drop, length-drop, length-set, take-append-drop}
-use lib.Seq.{length-take-le, getD-take, getD-drop, take-set-lt, take-set-le, drop-set-lt, drop-set-add}
+use lib.Seq.{length-take-le, getD-take, getD-drop, take-set-lt, take-set-le, drop-set-lt, drop-set-add, set-comm}
 use Rattle.algebra.specs.Pairs.{OnPair, zipped, exchanged}
 use Rattle.algebra.proofs.PairLists.{zipped-length, getD-zipped}
 use Rattle.word_lists.proofs.Loops.{WrittenFrom, from-none, from-more, from-all}
@@ -93,6 +93,12 @@ module _ (f : OnPair ℕ) (b : ℕ) (x₀ : List ℕ) where
       where
         at : (g : ℕ → ℕ → ℕ) → g (getD x j 0) (getD x (b + j) 0) ≡ getD (zipped g (take b x₀) (drop b x₀)) j 0
         at g = ap₂ g (exchanged-low j h n l) (exchanged-high j h n) ∙ sym (getD-zipped g (take b x₀) (drop b x₀) j 0 (omega (arith, low-size b x₀ two)) halves)
+
+    -- the same with the words written in the other order
+    pub paired-more′ : {x : List ℕ} {i : ℕ} (j u v : ℕ) → Paired x i → i ≡ suc j → i ≤ b → u ≡ f .shorter (getD x j 0) (getD x (b + j) 0)
+        → v ≡ f .longer (getD x j 0) (getD x (b + j) 0) → Paired (set (set x (b + j) v) j u) j
+    paired-more′ {x} {i} j u v h n l eu ev =
+        subst (λ (y : List ℕ). Paired y j) (set-comm x j (b + j) u v (λ e. omega arith)) (paired-more j u v h n l eu ev)
 
     pub paired-all : {x : List ℕ} {i : ℕ} → Paired x i → i ≡ 0 → x ≡ exchanged f b x₀
     unfolding exchanged

@@ -116,8 +116,8 @@ pub(crate) fn exchange_backward(x: &mut [u64], b: usize, p: Parameters)
         i -= 1;
         let s = x[i];
         let t = x[b + i];
-        x[i] = ring::add(t, ring::mul(p.r, s));
         x[b + i] = ring::mul(p.q, s);
+        x[i] = ring::add(t, ring::mul(p.r, s));
     }
 }
 

@@ -1,6 +1,6 @@
 -- The loop writes the words of both blocks, from the end; when it reads words i of both, they are still as they were. Rests on Exchange.
 use mathlib.Core.Path.{ap, _∙_}
-use Prim.Native.Nat.{_-_, _≤_}
+use Prim.Native.Nat.{_+_, _-_, _≤_}
 use native.Mathlib.Omega.{arith}
 use borrow.Author.Needs.{needs}
 use lib.ListN.{length-set}
@@ -8,7 +8,7 @@ use Rattle.ring.specs.Modular.{words}
 use Rattle.element_calls.specs.Coefficients.{modulus}
 use Rattle.hecke.specs.declared.blocks.Way.the-variants.{Backward}
 use Rattle.hecke.specs.Steps.{exchanging}
-use Rattle.hecke.proofs.Exchange.{Paired, paired-none, paired-more, paired-all}
+use Rattle.hecke.proofs.Exchange.{Paired, paired-none, paired-more′, paired-all}
 use Rattle.hecke.proofs.blocks.exchange_backward.Statement.{statement}
 use Rattle.hecke.proofs.blocks.exchange_backward.Tie as tie
 
@@ -20,8 +20,8 @@ abbrev μ-loop : tie.MeasureT-loop
 
 -- ---- places: the loop, from the first write, and the start, from the loop
 
-abbrev at-loop : tie.After-add Inv-loop μ-loop → tie.At-loop Inv-loop μ-loop
-at-loop c = c .before .before .before .before .before
+abbrev at-loop : tie.After-mul Inv-loop μ-loop → tie.At-loop Inv-loop μ-loop
+at-loop c = c .before .before .before .before
 
 abbrev start : tie.At-loop Inv-loop μ-loop → tie.Start Inv-loop μ-loop
 start c = c .before .before
@@ -32,16 +32,16 @@ loop-holds : tie.Need-loop-holds Inv-loop μ-loop
 loop-holds c = (omega arith, paired-none _ _ _ (c .before .pre))
 
 slice-write-x-2 : tie.Need-slice-write-x-2 Inv-loop μ-loop
-slice-write-x-2 c = let first = c .before in let at = at-loop first in
-    omega (arith, length-set (at .loop .x) (at .loop .i - 1) (first .add .result), at .loop .inv .1 .same)
+slice-write-x-2 c = let first = c .before .before in let at = at-loop first in
+    omega (arith, length-set (at .loop .x) (start at .args .b + (at .loop .i - 1)) (first .mul .result), at .loop .inv .1 .same)
 
 loop-again : tie.Need-loop-again Inv-loop μ-loop
 unfolding modulus exchanging
 loop-again c =
-    let first = c .before in let at = at-loop first in (
+    let first = c .before .before in let at = at-loop first in (
       omega arith,
-      paired-more _ _ _ (start at .pre) (at .loop .i - 1) _ _ (at .loop .inv .1) (omega arith) (omega arith)
-          (first .add .ensures ∙ ap (words .add _) (first .before .mul .ensures)) (c .mul2 .ensures),
+      paired-more′ _ _ _ (start at .pre) (at .loop .i - 1) _ _ (at .loop .inv .1) (omega arith) (omega arith)
+          (c .add .ensures ∙ ap (words .add _) (c .before .mul2 .ensures)) (first .mul .ensures),
     )
 
 same-length : tie.Need-same-length Inv-loop μ-loop
@@ -54,5 +54,5 @@ pub exchange-backward-spec : {M : Type 1} → statement M
 exchange-backward-spec =
     tie.close
     (tie.spec Inv-loop μ-loop loop-holds (λ c. omega arith) (λ c. omega arith) (λ c. omega arith) (λ c. omega arith) (λ c. omega arith) (λ c. omega arith)
-    (λ c κs. search needs) (λ c κs. search needs) (λ c. omega arith) (λ c. omega arith) (λ c κs. search needs) (λ c. omega arith)
+    (λ c κs. search needs) (λ c. omega arith) (λ c. omega arith) (λ c. omega arith) (λ c κs. search needs) (λ c κs. search needs)
     (λ c. omega arith) slice-write-x-2 (λ c. omega arith) loop-again same-length returns)
