@@ -1,7 +1,5 @@
 -- lists and their parts
 mod Sums
-mod Exchange
-mod Lowered
 mod Moved
 -- one letter, and a word
 mod LowRanks

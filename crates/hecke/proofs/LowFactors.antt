@@ -13,8 +13,10 @@ use Rattle.algebra.specs.Nested.{free, _⊠_, nested}
 use Rattle.algebra.proofs.NestedLetter.{nested-letter}
 use Rattle.element_calls.specs.declared.Parameters.{Parameters}
 use Rattle.element_calls.specs.Coefficients.{ring}
-use Rattle.hecke.specs.declared.blocks.Way.the-variants.{Forward}
-use Rattle.hecke.specs.Steps.{exchanging, sums, lettered, acted, multiplied, LetterPre, FactorsPre, TimesPre}
+use Rattle.block_loops.specs.declared.Way.the-variants.{Forward}
+use Rattle.block_loops.specs.InPlace.{exchanging, addMultiple}
+use Rattle.block_loops.proofs.Fits.{multiple-fits}
+use Rattle.hecke.specs.Steps.{sums, lettered, acted, multiplied, LetterPre, FactorsPre, TimesPre}
 use Rattle.hecke.proofs.Pieces.{acted-none}
 use Rattle.hecke.proofs.Summands.{multiplied-suc}
 
@@ -64,8 +66,9 @@ module _ {m : ℕ} {result h g : List ℕ} (c : FactorsPre m 1 result h g) where
   pub letter-pre : {y : List ℕ} → length y ≡ length result → LetterPre m 1 y
   letter-pre e = record { rank = c .rank; letter = record { low = omega arith; high = c .within }; size = e ∙ c .result }
 
-  pub one-whole : (p : Parameters) {y z t : List ℕ} → length y ≡ length result → y ≡ scale ℕ (ring p) (getD g 1 0) h → z ≡ lettered Forward p m 1 y
-      → t ≡ plus ℕ (ring p) (scale ℕ (ring p) (getD g 0 0) h) z → t ≡ multiplied p m 1 h g
-  one-whole p ly ey ez e =
+  pub one-whole : (p : Parameters) {y z t : List ℕ} → length y ≡ length result → y ≡ scale ℕ (ring p) (getD g 1 0) h → length z ≡ length y
+      → z ≡ lettered Forward p m 1 y → t ≡ addMultiple p z (getD g 0 0) h → t ≡ multiplied p m 1 h g
+  one-whole p {z = z} ly ey lz ez e =
       let second = ez ∙ letter-acted p (letter-pre ly) ∙ ap (acted p m 1 1) ey in
-      e ∙ ap (plus ℕ (ring p) (scale ℕ (ring p) (getD g 0 0) h)) second ∙ sym (multiplied-one p m h g)
+      e ∙ multiple-fits p z (getD g 0 0) h (lz ∙ ly ∙ c .result ∙ sym (c .left))
+      ∙ ap (plus ℕ (ring p) (scale ℕ (ring p) (getD g 0 0) h)) second ∙ sym (multiplied-one p m h g)

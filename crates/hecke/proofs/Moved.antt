@@ -1,5 +1,5 @@
 -- A loop that lends each pair of neighbouring blocks, from the first on, and gets q times the second in the place of the first: the blocks after the
--- first, times q, move one block down. After it the last block is written. Rests on lists' Passed.
+-- first, times q, move one block down. After it the last block is written. Rests on lists' Passed and block_loops' Fits.
 --
 --   pair b k x           the blocks k and k + 1, of b words, as they are lent
 --   Moved p b x₀ x k     the first k blocks of x are q times the blocks 1 to k of x₀, and the others as they were in x₀
@@ -19,6 +19,8 @@ use Rattle.algebra.specs.Element.{plus, scale}
 use Rattle.algebra.proofs.Lists.{scale-length}
 use Rattle.element_calls.specs.declared.Parameters.{Parameters}
 use Rattle.element_calls.specs.Coefficients.{ring}
+use Rattle.block_loops.specs.InPlace.{foldInto, moveDown}
+use Rattle.block_loops.proofs.Fits.{fold-fits, move-fits}
 
 -- ---- a pair of blocks
 
@@ -35,7 +37,7 @@ second-half b k x h =
     ap (λ (n : ℕ). drop b (take n y)) e ∙ ap (drop b) (take-add b b y)
     ∙ drop-at (take b y) (take b (drop b y)) b (length-take-le b y (omega (arith, length-drop (k * b) x)))
 
-pub pair-size : (b k : ℕ) (x : List ℕ) → k * b + b + b ≤ length x → length (pair b k x) ≡ b + b
+pair-size : (b k : ℕ) (x : List ℕ) → k * b + b + b ≤ length x → length (pair b k x) ≡ b + b
 pair-size b k x h = length-take-le (k * b + b + b - k * b) (drop (k * b) x) (rw length-drop (omega arith)) ∙ omega arith
 
 -- a pair that comes back with u in the place of its first block
@@ -57,7 +59,7 @@ abbrev pub Moved : (p : Parameters) (b : ℕ) (x₀ x : List ℕ) → ℕ → Ty
 Moved p b x₀ x k = Passed b (λ i u. scale ℕ (ring p) (p .q) (block b (suc i) x₀)) x₀ x k
 
 pub moved-more : (p : Parameters) {b k : ℕ} {x₀ x v : List ℕ} → Moved p b x₀ x k → k * b + b + b ≤ length x
-    → v ≡ scale ℕ (ring p) (p .q) (drop b (pair b k x)) ++ drop b (pair b k x) → Moved p b x₀ (putMid (k * b) (k * b + b + b - k * b) x v) (k + 1)
+    → v ≡ moveDown p b (pair b k x) → Moved p b x₀ (putMid (k * b) (k * b + b + b - k * b) x v) (k + 1)
 unfolding block
 moved-more p {b} {k} {x₀} {x} {v} h fits e =
     let at = k * b in
@@ -68,7 +70,7 @@ moved-more p {b} {k} {x₀} {x} {v} h fits e =
     let size : length u ≡ b = scale-length ℕ (ring p) (p .q) (drop b (pair b k x)) ∙ ap length half
     ∙ length-take-le b (drop b (drop at x)) (omega (arith, length-drop b (drop at x), length-drop at x)) in
     subst (λ (y : List ℕ). Moved p b x₀ y (k + 1))
-    (sym (ap (putMid at (at + b + b - at) x) e ∙ pair-put b k x u fits))
+    (sym (ap (putMid at (at + b + b - at) x) (e ∙ move-fits p b (pair b k x) (pair-size b k x fits)) ∙ pair-put b k x u fits))
     (passed-more u h fits-one
     (ap (scale ℕ (ring p) (p .q)) (half ∙ ap (λ (y : List ℕ). take b (drop b y)) (h .rest) ∙ ap (take b) (drop-drop b at x₀ ∙ ap (λ (i : ℕ). drop i x₀) n)))
     (size ∙ sym (part-size b k x fits-one)))
@@ -87,9 +89,10 @@ moved-all p {b} {k} {l} {x₀} {x} h d e =
 -- ---- the last block
 
 -- the first b words of sum came back as v, and are copied
-pub last-block : (p : Parameters) (b : ℕ) (x sum : List ℕ) {v w : List ℕ} → b ≤ length sum → length v ≡ length (take (b - 0) sum)
-    → v ≡ plus ℕ (ring p) (take (b - 0) x) (scale ℕ (ring p) (p .r) (take (b - 0) sum)) → w ≡ take (b - 0) (putMid 0 (b - 0) sum v)
+pub last-block : (p : Parameters) (b : ℕ) (x sum : List ℕ) {v w : List ℕ} → b ≤ length x → b ≤ length sum → length v ≡ length (take (b - 0) sum)
+    → v ≡ foldInto p (take (b - 0) sum) (take (b - 0) x) → w ≡ take (b - 0) (putMid 0 (b - 0) sum v)
     → w ≡ plus ℕ (ring p) (take b x) (scale ℕ (ring p) (p .r) (take b sum))
-last-block p b x sum {v} h same e f =
-    f ∙ front-put b sum v _ (sub-zero b) h same ∙ e
+last-block p b x sum {v} g h same e f =
+    let sizes = length-take-le (b - 0) sum (omega arith) ∙ sym (length-take-le (b - 0) x (omega arith)) in
+    f ∙ front-put b sum v _ (sub-zero b) h same ∙ e ∙ fold-fits p _ _ sizes
     ∙ ap (λ (n : ℕ). plus ℕ (ring p) (take n x) (scale ℕ (ring p) (p .r) (take n sum))) (sub-zero b)

@@ -15,8 +15,9 @@ use Rattle.algebra.proofs.OnPairs.{onPairs-length}
 use Rattle.signed_words.specs.Words.{isBelow}
 use Rattle.element_calls.specs.declared.Parameters.{Parameters}
 use Rattle.element_calls.specs.Coefficients.{ring}
-use Rattle.hecke.specs.declared.blocks.Way.the-variants.{Forward, Backward}
-use Rattle.hecke.specs.Steps.{exchanging, lettered, signedLettered, signedActed}
+use Rattle.block_loops.specs.declared.Way.the-variants.{Forward, Backward}
+use Rattle.block_loops.specs.InPlace.{exchanging}
+use Rattle.hecke.specs.Steps.{lettered, signedLettered, signedActed}
 
 -- ---- one letter
 

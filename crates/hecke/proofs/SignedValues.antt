@@ -25,12 +25,13 @@ use Rattle.element_calls.specs.Calls.{firstBelow}
 use Rattle.element_calls.specs.Steps.{askedParameters}
 use Rattle.element_calls.specs.Claims.{NoneBelow}
 use Rattle.element_calls.proofs.SignedVerdicts.{all-plain}
-use Rattle.hecke.specs.Steps.{exchanging, signedLettered, signedActed}
+use Rattle.block_loops.specs.InPlace.{exchanging}
+use Rattle.hecke.specs.Steps.{signedLettered, signedActed}
 
 -- ---- no letter below 0
 
 module _ (p a : Parameters) (q' r' m : ℕ) where
-  pub plain-is : (x : List ℤ) (h : List ℕ) → NoneBelow x → signedActed p a m x h ≡ signedAct ℕ (ring p) (p .q) (p .r) q' r' m x h
+  plain-is : (x : List ℤ) (h : List ℕ) → NoneBelow x → signedActed p a m x h ≡ signedAct ℕ (ring p) (p .q) (p .r) q' r' m x h
   unfolding exchanging signedActed signedAct signedLetter isBelow
   plain-is [] h n = refl
   plain-is (pos i ∷ x) h n =
@@ -61,7 +62,7 @@ module _ (m : ℕ) {q q' : ℕ} (hq : q < 2 ^ 64) (hq' : q' < 2 ^ 64) (one : wor
   unfolding signedAct
   letter-element z h e = word-signed-closed m hq hq' .signed-act (z ∷ []) h e
 
-  pub inverted-is : (x : List ℤ) (h : List ℕ) → SignedWord m x → E h → signedActed p p' m x h ≡ signedAct ℕ words (p .q) (p .r) (p' .q) (p' .r) m x h
+  inverted-is : (x : List ℤ) (h : List ℕ) → SignedWord m x → E h → signedActed p p' m x h ≡ signedAct ℕ words (p .q) (p .r) (p' .q) (p' .r) m x h
   unfolding signedActed signedAct
   inverted-is [] h w e = refl
   inverted-is (z ∷ x) h w e = ap (signedActed p p' m x) (letter-is z h (w .0) e) ∙ inverted-is x (on z h) (w .1) (letter-element z h e)
@@ -69,13 +70,13 @@ module _ (m : ℕ) {q q' : ℕ} (hq : q < 2 ^ 64) (hq' : q' < 2 ^ 64) (one : wor
 -- ---- the parameters that are asked for
 
 module _ (m q : ℕ) (x : List ℤ) (h : List ℕ) (hq : q < 2 ^ 64) (w : SignedWord m x) (e : Element (λ n. n < 2 ^ 64) m h) where
-  abbrev acted : List ℕ
-  acted = let p = parametersOf q in let p' = inverseParameters q in signedAct ℕ (ring p) (p .q) (p .r) (p' .q) (p' .r) m x h
+  abbrev by-letters : List ℕ
+  by-letters = let p = parametersOf q in let p' = inverseParameters q in signedAct ℕ (ring p) (p .q) (p .r) (p' .q) (p' .r) m x h
 
-  plain : (a : Parameters) → NoneBelow x → signedActed (parametersOf q) a m x h ≡ acted
+  plain : (a : Parameters) → NoneBelow x → signedActed (parametersOf q) a m x h ≡ by-letters
   plain a n = let p' = inverseParameters q in plain-is (parametersOf q) a (p' .q) (p' .r) m x h n
 
-  inverted : hasInverse wordModulus q ≡ true → signedActed (parametersOf q) (inverseParameters q) m x h ≡ acted
+  inverted : hasInverse wordModulus q ≡ true → signedActed (parametersOf q) (inverseParameters q) m x h ≡ by-letters
   unfolding modulus
   inverted t = let i = inverses wordModulus q hq .is t in inverted-is m hq (i .below) (i .product) x h w e
 
@@ -83,10 +84,10 @@ module _ (m q : ℕ) (x : List ℤ) (h : List ℕ) (hq : q < 2 ^ 64) (w : Signed
   unfolding askedParameters
   asked f t = rw (f, t) refl
 
-  pub asked-is : NoneBelow x ⊎ (hasInverse wordModulus q ≡ true) → signedActed (parametersOf q) (askedParameters q x) m x h ≡ acted
+  pub asked-is : NoneBelow x ⊎ (hasInverse wordModulus q ≡ true) → signedActed (parametersOf q) (askedParameters q x) m x h ≡ by-letters
   asked-is (inl n) = plain (askedParameters q x) n
   asked-is (inr t) = go (less? (firstBelow x) (length x))
     where
-      go : LessView (firstBelow x) (length x) → signedActed (parametersOf q) (askedParameters q x) m x h ≡ acted
+      go : LessView (firstBelow x) (length x) → signedActed (parametersOf q) (askedParameters q x) m x h ≡ by-letters
       go (lt l f) = ap (λ (a : Parameters). signedActed (parametersOf q) a m x h) (asked f t) ∙ inverted t
       go (ge g f) = plain (askedParameters q x) (all-plain x g)

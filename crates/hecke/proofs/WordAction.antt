@@ -13,8 +13,9 @@ use Rattle.algebra.proofs.Generator.{letter-onPairs}
 use Rattle.algebra.proofs.OnPairs.{onPairs-length}
 use Rattle.element_calls.specs.declared.Parameters.{Parameters}
 use Rattle.element_calls.specs.Coefficients.{ring}
-use Rattle.hecke.specs.declared.blocks.Way.the-variants.{Forward}
-use Rattle.hecke.specs.Steps.{exchanging, lettered}
+use Rattle.block_loops.specs.declared.Way.the-variants.{Forward}
+use Rattle.block_loops.specs.InPlace.{exchanging}
+use Rattle.hecke.specs.Steps.{lettered}
 
 module _ (p : Parameters) (m : ℕ) where
   abbrev acts : List ℕ → List ℕ → List ℕ

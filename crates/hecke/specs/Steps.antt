@@ -1,7 +1,6 @@
 -- The vocabulary of the inner contracts: the steps by which the code makes x T_j, x T_a(j,l) and h g, with the parameters p. No public contract and no
 -- claim cites them.
 --
---   exchanging w p          a letter as an operator on pairs: formula 4.1, or its inverse, for which p has q' and q' - 1
 --   lettered w p m j x      x T_j, or x times the inverse of T_j, for x of rank m
 --   signedLettered p p' m z x   the letter z on x, of rank m: with p, or below 0 with p'
 --   signedActed p p' m x h  h, of rank m, acted on by the signed letters x, left to right
@@ -22,18 +21,14 @@ use Rattle.lists.specs.Numbers.{factorial}
 use Rattle.lists.specs.Blocks.{block, blocks}
 use Rattle.perms.specs.Permutation.{Letter, Word}
 use Rattle.algebra.specs.Element.{plus, scale}
-use Rattle.algebra.specs.Pairs.{OnPair, forward, onPairs}
+use Rattle.algebra.specs.Pairs.{onPairs}
 use Rattle.algebra.specs.Nested.{nestedAct, nested}
-use Rattle.signed_words.specs.InverseLetter.{backward}
 use Rattle.signed_words.specs.Words.{SignedLetter, SignedWord}
 use Rattle.element_calls.specs.declared.Parameters.{Parameters}
 use Rattle.element_calls.specs.Coefficients.{ring}
-use Rattle.hecke.specs.declared.blocks.Way.{Way}
-use Rattle.hecke.specs.declared.blocks.Way.the-variants.{Forward, Backward}
-
-unfoldable pub exchanging : Way → Parameters → OnPair ℕ
-exchanging Forward p = forward ℕ (ring p) (p .q) (p .r)
-exchanging Backward p = backward ℕ (ring p) (p .q) (p .r)
+use Rattle.block_loops.specs.declared.Way.{Way}
+use Rattle.block_loops.specs.declared.Way.the-variants.{Forward, Backward}
+use Rattle.block_loops.specs.InPlace.{exchanging}
 
 abbrev pub lettered : Way → Parameters → (m j : ℕ) → List ℕ → List ℕ
 lettered w p m j x = onPairs ℕ (ring p) (exchanging w p) m j x

@@ -4,8 +4,8 @@ ghost use mathlib.Core.Path.{_≡_};
 ghost use Rattle.lists.specs.Blocks.{block, blocks};
 ghost use Rattle.hecke.specs.Steps.{acted, joint, ActPre, LevelPre, EachPre, MiddlePre, TwoPre};
 use crate::blocks;
-use crate::blocks::Way;
 use crate::letters;
+use block_loops::Way;
 use element_calls::Parameters;
 
 // x T_a(j,l) in the place of x, of rank m.
@@ -85,9 +85,9 @@ fn level_of_rank_two(x: &mut [u64], work: &mut [u64], p: Parameters)
     requires { ⌜ TwoPre (now x) (now work) ⌝ }
     ensures { λ _. ⌜ now (x .exit) ≡ acted p 2 2 2 (now (x .entry)) ⌝ }
 {
-    blocks::copy(&mut work[0..2], &x[2..4]);
-    blocks::exchange_forward(&mut x[2..4], 1, p);
-    blocks::exchange_forward(&mut x[4..], 1, p);
-    blocks::add_to(&mut work[0..2], &x[4..], p);
+    word_lists::load(&mut work[0..2], &x[2..4], 0);
+    block_loops::exchange_forward(&mut x[2..4], 1, p);
+    block_loops::exchange_forward(&mut x[4..], 1, p);
+    block_loops::add_to(&mut work[0..2], &x[4..], p);
     blocks::shift(x, work, 2, 2, p);
 }

@@ -5,10 +5,9 @@ ghost use Prim.Native.Nat.{ℕ};
 ghost use Rattle.lists.specs.Blocks.{block, blocks};
 ghost use Rattle.algebra.specs.Product.{act};
 ghost use Rattle.element_calls.specs.Coefficients.{ring};
-ghost use Rattle.hecke.specs.declared.blocks.Way.the-variants.{Forward, Backward};
+ghost use Rattle.block_loops.specs.declared.Way.the-variants.{Forward, Backward};
 ghost use Rattle.hecke.specs.Steps.{lettered, signedLettered, signedActed, LetterPre, EachLetterPre, LettersPre, SignedLetterPre, SignedLettersPre};
-use crate::blocks;
-use crate::blocks::Way;
+use block_loops::Way;
 use element_calls::Parameters;
 use element_calls::signed;
 
@@ -27,7 +26,7 @@ pub(crate) fn letter(x: &mut [u64], m: usize, j: usize, way: Way, p: Parameters)
         return;
     }
     if m == 1 {
-        blocks::exchange(x, 1, way, p);
+        block_loops::exchange(x, 1, way, p);
         return;
     }
     let lower = m - 1;
@@ -35,7 +34,7 @@ pub(crate) fn letter(x: &mut [u64], m: usize, j: usize, way: Way, p: Parameters)
     let low = (m - j) * b;
     let high = low + b + b;
     each_letter(&mut x[0..low], lower, b, m - j, j, way, p);
-    blocks::exchange(&mut x[low..high], b, way, p);
+    block_loops::exchange(&mut x[low..high], b, way, p);
     each_letter(&mut x[high..], lower, b, j - 1, j - 1, way, p);
 }
 
@@ -86,7 +85,7 @@ fn forward_of_rank_three(x: &mut [u64], j: usize, p: Parameters)
     let low = (3 - j) * 6;
     let high = low + 6 + 6;
     each_forward(&mut x[0..low], 3 - j, j, p);
-    blocks::exchange_forward(&mut x[low..high], 6, p);
+    block_loops::exchange_forward(&mut x[low..high], 6, p);
     each_forward(&mut x[high..], j - 1, j - 1, p);
 }
 
@@ -98,7 +97,7 @@ fn backward_of_rank_three(x: &mut [u64], j: usize, p: Parameters)
     let low = (3 - j) * 6;
     let high = low + 6 + 6;
     each_backward(&mut x[0..low], 3 - j, j, p);
-    blocks::exchange_backward(&mut x[low..high], 6, p);
+    block_loops::exchange_backward(&mut x[low..high], 6, p);
     each_backward(&mut x[high..], j - 1, j - 1, p);
 }
 
@@ -143,12 +142,12 @@ fn forward_of_rank_two(x: &mut [u64], j: usize, p: Parameters)
     ensures { λ _. ⌜ now (x .exit) ≡ lettered Forward p 2 j (now (x .entry)) ⌝ }
 {
     if j == 1 {
-        blocks::exchange_forward(&mut x[0..2], 1, p);
-        blocks::exchange_forward(&mut x[2..], 2, p);
+        block_loops::exchange_forward(&mut x[0..2], 1, p);
+        block_loops::exchange_forward(&mut x[2..], 2, p);
         return;
     }
-    blocks::exchange_forward(&mut x[0..4], 2, p);
-    blocks::exchange_forward(&mut x[4..], 1, p);
+    block_loops::exchange_forward(&mut x[0..4], 2, p);
+    block_loops::exchange_forward(&mut x[4..], 1, p);
 }
 
 // x times the inverse of T_j in the place of x, of rank 2.
@@ -157,12 +156,12 @@ fn backward_of_rank_two(x: &mut [u64], j: usize, p: Parameters)
     ensures { λ _. ⌜ now (x .exit) ≡ lettered Backward p 2 j (now (x .entry)) ⌝ }
 {
     if j == 1 {
-        blocks::exchange_backward(&mut x[0..2], 1, p);
-        blocks::exchange_backward(&mut x[2..], 2, p);
+        block_loops::exchange_backward(&mut x[0..2], 1, p);
+        block_loops::exchange_backward(&mut x[2..], 2, p);
         return;
     }
-    blocks::exchange_backward(&mut x[0..4], 2, p);
-    blocks::exchange_backward(&mut x[4..], 1, p);
+    block_loops::exchange_backward(&mut x[0..4], 2, p);
+    block_loops::exchange_backward(&mut x[4..], 1, p);
 }
 
 // The letters act on x one by one.

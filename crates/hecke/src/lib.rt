@@ -31,11 +31,11 @@ fn size(m: usize) -> usize
 }
 
 // The answer of the action of n letters on an element of rank m.
-fn acted(n: usize, m: usize) -> Answer
+fn answer_of_letters(n: usize, m: usize) -> Answer
     requires { ⌜ (n ≤ 4096) × (m ≤ 6) ⌝ }
     ensures { λ a. ⌜ a ≡ accepted (n * (3 * factorial (suc m) / 2)) ⌝ }
 {
-    refusals::accepted(n as u64 * (3 * size(m) as u64 / 2))
+    accepted(n as u64 * (3 * size(m) as u64 / 2))
 }
 
 // The word's generators T_i act on the element of rank m, left to right: 3M/2 ring operations a letter.
@@ -53,7 +53,7 @@ pub fn act_word(m: usize, q: u64, word: &[u8], element: &mut [u64]) -> Answer
         return refused(why);
     }
     letters::act_letters(element, word, m, element_calls::parameters_of(q));
-    acted(word.len(), m)
+    answer_of_letters(word.len(), m)
 }
 
 // The word's signed letters act on the element of rank m, left to right: i stands for T_i and -i for its inverse, q' T_i + (q' - 1)
@@ -71,7 +71,7 @@ pub fn act_signed_word(m: usize, q: u64, word: &[i8], element: &mut [u64]) -> An
     let p = element_calls::parameters_of(q);
     let back = signed::inverse_parameters(q, word);
     letters::act_signed_letters(element, word, m, p, back);
-    acted(word.len(), m)
+    answer_of_letters(word.len(), m)
 }
 
 // The product of two elements of rank m, by the nested method: C(m, m) ring operations. The first (m + 6) M words of scratch

@@ -4,8 +4,8 @@ ghost use mathlib.Core.Path.{_≡_};
 ghost use Rattle.hecke.specs.Steps.{multiplied, FactorsPre, TimesPre, LayerPre, LayerPost};
 use crate::action;
 use crate::blocks;
-use crate::blocks::Way;
 use crate::letters;
+use block_loops::Way;
 use element_calls::Parameters;
 
 // h g in the place of result, for h of rank m and g of rank l. The sum of the first k summands, one for each block of g, is in
@@ -48,7 +48,7 @@ fn times_one(result: &mut [u64], h: &[u64], g: &[u64], m: usize, p: Parameters)
 {
     blocks::multiple(result, g[1], h, p);
     letters::letter(result, m, 1, Way::Forward, p);
-    blocks::add_multiple(result, g[0], h, p);
+    block_loops::add_multiple(result, g[0], h, p);
 }
 
 // (h g_k) T_a(l+1,k) in the place of result, for the block g_k of g, of rank l and part words. The first size words of scratch

@@ -37,7 +37,7 @@ start c = c .before .before
 abbrev accepting : tie.After-act-signed-letters → tie.After-enum-told
 accepting c = c .before .before .before .before
 
-abbrev all-acted : tie.After-acted → tie.After-act-signed-letters
+abbrev all-acted : tie.After-answer-of-letters → tie.After-act-signed-letters
 all-acted c = c .before .before .before
 
 -- ---- the needs
@@ -55,8 +55,8 @@ returns c = let checked = c .before .before in
 act-signed-letters-requires : tie.Need-act-signed-letters-requires
 act-signed-letters-requires c κs = let g = accepts (c .before .before .before) in record { rank = g .0; letters = g .2; size = g .1 }
 
-acted-requires : tie.Need-acted-requires
-acted-requires c κs = let g = accepts (accepting (c .before .before)) in (g .3, g .0)
+answer-requires : tie.Need-answer-of-letters-requires
+answer-requires c κs = let g = accepts (accepting (c .before .before)) in (g .3, g .0)
 
 returns-2 : tie.Need-returns-2
 unfolding actSignedWordCall
@@ -67,10 +67,10 @@ returns-2 c =
     (letters-act (u .m) (u .word .now) (u .element .now) (made .act-signed-letters .ensures)
     (made .before .before .before .parameters-of .ensures) (made .before .before .inverse-parameters .ensures)
     ∙ asked-is (u .m) (u .q) (u .word .now) (u .element .now) (start checked .fits .q .fits) (g .2) (slice-element (g .1) (checked .before .slice-known .given)) (g .4))
-    refl (c .acted .ensures)
+    refl (c .answer-of-letters .ensures)
 
 pub act-signed-word-spec : {M : Type 1} → statement M
 act-signed-word-spec =
     tie.close
     (tie.spec (λ c κs. search needs) (λ c. search needs) (λ c κs. search needs) returns (λ c. search needs) (λ c κs. search needs) (λ c κs. search needs)
-    act-signed-letters-requires acted-requires (λ c. search needs) returns-2)
+    act-signed-letters-requires answer-requires (λ c. search needs) returns-2)

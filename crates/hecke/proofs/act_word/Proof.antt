@@ -49,7 +49,7 @@ refusing c = c .before .before .before .before
 abbrev accepting : tie.After-act-letters → tie.After-enum-told
 accepting c = c .before .before .before
 
-abbrev all-acted : tie.After-acted → tie.After-act-letters
+abbrev all-acted : tie.After-answer-of-letters → tie.After-act-letters
 all-acted c = c .before .before .before
 
 -- ---- the needs
@@ -71,8 +71,8 @@ returns c = ended-refused refused _ _ _ (sym (row (refusing c)) ∙ c .before .b
 act-letters-requires : tie.Need-act-letters-requires
 act-letters-requires c κs = let g = good (c .before .before) in record { rank = g .rank; letters = g .word; size = g .element }
 
-acted-requires : tie.Need-acted-requires
-acted-requires c κs = let g = good (accepting (c .before .before)) in (g .few, g .rank)
+answer-requires : tie.Need-answer-of-letters-requires
+answer-requires c κs = let g = good (accepting (c .before .before)) in (g .few, g .rank)
 
 returns-2 : tie.Need-returns-2
 unfolding actWordCall
@@ -81,11 +81,11 @@ returns-2 c =
     let u = start (told .before .before) .args in
     write-done _ _ _ _ (sym (row (told .before .before)) ∙ told .enum-told .given .1)
     (letters-act (u .m) (u .q) (u .word .now) (u .element .now) (made .act-letters .ensures) (made .before .parameters-of .ensures))
-    refl (c .acted .ensures)
+    refl (c .answer-of-letters .ensures)
 
 pub act-word-spec : {M : Type 1} → statement M
 act-word-spec =
     tie.close
     (tie.spec (λ c κs. search needs) (λ c κs. search needs) (λ c κs. search needs) (λ c κs. search needs) (λ c κs. search needs)
     (λ c. search needs) (λ c κs. search needs) returns (λ c. search needs)
-    (λ c κs. search needs) act-letters-requires acted-requires (λ c. search needs) returns-2)
+    (λ c κs. search needs) act-letters-requires answer-requires (λ c. search needs) returns-2)

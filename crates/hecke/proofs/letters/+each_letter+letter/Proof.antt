@@ -2,6 +2,7 @@
 mod EachNeeds
 mod LetterNeeds
 use native.Mathlib.Omega.{arith}
+use borrow.Author.Needs.{needs}
 use Rattle.hecke.proofs.letters.each_letter.Reads as each-letter
 use Rattle.hecke.proofs.letters.+each_letter+letter.Lts-each_letter as each-lts
 use Rattle.hecke.proofs.letters.letter.Reads as letter
@@ -38,7 +39,7 @@ pub +each-letter+letter-spec : {M : Type 1} → statement M
     (letter-needs.two-requires t)
     (λ c. c .before .before .letter-of-rank-two .kept .0)
     (letter-needs.returns-2 t)
-    (letter-needs.exchange-requires t)
+    (λ c κs. search needs)
     (λ c. c .before .before .exchange .kept .0)
     (letter-needs.returns-3 t)
     (λ c. omega arith)
@@ -56,7 +57,7 @@ pub +each-letter+letter-spec : {M : Type 1} → statement M
     (λ c. omega arith)
     (λ c. omega arith)
     (letter-needs.middle-ends t)
-    (letter-needs.middle-requires t)
+    (λ c κs. search needs)
     (λ c. omega (arith, letter-needs.within t (letter-needs.sized t (letter-needs.first t (c .before .before)))))
     (letter-needs.high-ends t)
     (letter-needs.high-ends t)

@@ -5,7 +5,7 @@ use native.Mathlib.Omega.{arith}
 use lib.ListN.{length}
 use Rattle.lists.proofs.Parts.{fits-block, part-size}
 use Rattle.lists.proofs.Passed.{Passed, passed-none, passed-more, passed-all}
-use Rattle.hecke.specs.declared.blocks.Way.the-variants.{Forward}
+use Rattle.block_loops.specs.declared.Way.the-variants.{Forward}
 use Rattle.hecke.specs.Steps.{lettered}
 use Rattle.hecke.proofs.letters.each_forward.Statement.{statement}
 use Rattle.hecke.proofs.letters.each_forward.Tie as tie

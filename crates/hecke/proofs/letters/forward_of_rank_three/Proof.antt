@@ -6,7 +6,7 @@ use borrow.Author.Needs.{needs}
 use lib.ListN.{length}
 use Rattle.lists.specs.Numbers.{factorial}
 use Rattle.lists.proofs.Cuts.{high-within, middle-end, high-end, cut-length}
-use Rattle.hecke.proofs.LetterCut.{cut, low-pre, two-blocks, high-pre, all-back}
+use Rattle.hecke.proofs.LetterCut.{cut, low-pre, high-pre, all-back}
 use Rattle.hecke.proofs.letters.forward_of_rank_three.Statement.{statement}
 use Rattle.hecke.proofs.letters.forward_of_rank_three.Tie as tie
 
@@ -40,9 +40,6 @@ low-requires c κs = low-pre (start (c .before) .pre) six
 middle-ends : tie.Need-part-exchange-forward-end
 middle-ends c = let l = c .before .before in middle-end (cut (start (begin l) .pre) six) (l .each-forward .last .0) (l .each-forward .kept .0)
 
-middle-requires : tie.Need-exchange-forward-requires
-middle-requires c κs = let l = c .before .before .before in two-blocks (start (begin l) .pre) six (l .each-forward .last .0) (l .each-forward .kept .0)
-
 high-ends : tie.Need-sub-each-forward-3
 high-ends c =
     let e = c .before .before in let l = first e in
@@ -56,19 +53,21 @@ high-requires c κs =
 same-length : tie.Need-same-length
 same-length c =
     let h = c .before .before in let e = second h in let l = first e in
-    cut-length (cut (start (begin l) .pre) six) (l .each-forward .last .0) (l .each-forward .kept .0) (e .exchange-forward .last .0) (e .exchange-forward .kept .0) (h .each-forward2 .last .0) (h .each-forward2 .kept .0)
+    cut-length (cut (start (begin l) .pre) six) (l .each-forward .last .0) (l .each-forward .kept .0) (e .exchange-forward .last .0) (e .exchange-forward .kept .0)
+    (h .each-forward2 .last .0) (h .each-forward2 .kept .0)
 
 returns : tie.Need-returns
 returns c =
     let h = c .before .before in let e = second h in let l = first e in
-    all-back (start (begin l) .pre) six (l .each-forward .last .0) (l .each-forward .kept .0) (e .exchange-forward .last .0) (e .exchange-forward .kept .0) _ _ (h .each-forward2 .last .0)
-    (l .each-forward .ensures) (e .exchange-forward .ensures) (h .each-forward2 .ensures)
+    all-back (start (begin l) .pre) six (l .each-forward .last .0) (l .each-forward .kept .0) (e .exchange-forward .last .0) (e .exchange-forward .kept .0) _ _
+    (h .each-forward2 .last .0) (l .each-forward .ensures) (e .exchange-forward .ensures) (h .each-forward2 .ensures)
 
 pub forward-of-rank-three-spec : {M : Type 1} → statement M
 forward-of-rank-three-spec =
     tie.close
     (tie.spec (λ c. omega (arith, start c .pre .letter .high)) (λ c. omega arith) (λ c. omega arith) (λ c. omega arith)
     (λ c. omega arith) (λ c. omega arith) (λ c. omega (arith, within c)) (λ c. omega (arith, start (c .before) .pre .letter .high)) low-requires
-    (λ c. omega arith) (λ c. omega arith) (λ c. omega arith) middle-ends middle-requires
+    (λ c. omega arith) (λ c. omega arith) (λ c. omega arith) middle-ends (λ c κs. search needs)
     (λ c. omega arith) high-ends high-ends (λ c. omega arith)
-    (λ c. omega (arith, start (begin (first (c .before .before .before))) .pre .letter .low)) (λ c. omega (arith, start (begin (first (c .before .before .before))) .pre .letter .low)) high-requires same-length returns)
+    (λ c. omega (arith, start (begin (first (c .before .before .before))) .pre .letter .low))
+    (λ c. omega (arith, start (begin (first (c .before .before .before))) .pre .letter .low)) high-requires same-length returns)

@@ -1,8 +1,8 @@
 -- For either letter one of the three parts of the element is empty, and the two exchanges are the others. Rests on LowRanks and lists' InRow.
-use mathlib.Core.Path.{_≡_, _∙_}
+use mathlib.Core.Path.{_≡_}
 use native.Mathlib.Omega.{arith}
 use borrow.Author.Needs.{needs}
-use Rattle.lists.proofs.InRow.{same-size, second-size}
+use Rattle.lists.proofs.InRow.{same-size}
 use Rattle.hecke.proofs.LowRanks.{rank-two-size, exchanged-two-1, exchanged-two-2}
 use Rattle.hecke.proofs.letters.forward_of_rank_two.Statement.{statement}
 use Rattle.hecke.proofs.letters.forward_of_rank_two.Tie as tie
@@ -29,12 +29,6 @@ sub-exchange-2 c =
     let size = rank-two-size (start .pre) in
     omega (arith, size, same-size 2 (start .args .x .now) (first .exchange-forward .last .0) (omega arith) (first .exchange-forward .kept .0))
 
-exchange-requires-2 : tie.Need-exchange-forward-requires-2
-exchange-requires-2 c κs =
-    let first = c .before .before .before in let start = start-1 first in
-    let size = rank-two-size (start .pre) in
-    second-size 2 (start .args .x .now) (first .exchange-forward .last .0) (omega arith) (first .exchange-forward .kept .0) ∙ omega (arith, size)
-
 returns : tie.Need-returns
 returns c =
     let second = c .before .before in let first = first-1 second in
@@ -49,23 +43,18 @@ sub-exchange-4 c =
     let size = rank-two-size (start .pre) in
     omega (arith, size, same-size 4 (start .args .x .now) (first .exchange-forward3 .last .0) (omega arith) (first .exchange-forward3 .kept .0))
 
-exchange-requires-4 : tie.Need-exchange-forward-requires-4
-exchange-requires-4 c κs =
-    let first = c .before .before .before in let start = start-2 first in
-    let size = rank-two-size (start .pre) in
-    second-size 4 (start .args .x .now) (first .exchange-forward3 .last .0) (omega arith) (first .exchange-forward3 .kept .0) ∙ omega (arith, size)
-
 returns-2 : tie.Need-returns-2
 returns-2 c =
     let second = c .before .before in let first = first-2 second in
     let pre = start-2 first .pre in
     let two : 2 ≡ start-2 first .args .j = omega (arith, first .before .before .if1 .left, pre .letter .low, pre .letter .high) in
-    exchanged-two-2 _ _ pre (first .exchange-forward3 .last .0) two (first .exchange-forward3 .kept .0) (first .exchange-forward3 .ensures) (second .exchange-forward4 .ensures)
+    exchanged-two-2 _ _ pre (first .exchange-forward3 .last .0) two (first .exchange-forward3 .kept .0) (first .exchange-forward3 .ensures)
+    (second .exchange-forward4 .ensures)
 
 pub forward-of-rank-two-spec : {M : Type 1} → statement M
 forward-of-rank-two-spec =
     tie.close
     (tie.spec (λ c. search needs) (λ c. search needs) (λ c. omega (arith, rank-two-size (c .before .before .pre))) (λ c κs. search needs)
-    sub-exchange-2 sub-exchange-2 (λ c. search needs) exchange-requires-2 (λ c. search needs) returns
+    sub-exchange-2 sub-exchange-2 (λ c. search needs) (λ c κs. search needs) (λ c. search needs) returns
     (λ c. search needs) (λ c. search needs) (λ c. omega (arith, rank-two-size (c .before .before .pre))) (λ c κs. search needs)
-    sub-exchange-4 sub-exchange-4 (λ c. search needs) exchange-requires-4 (λ c. search needs) returns-2)
+    sub-exchange-4 sub-exchange-4 (λ c. search needs) (λ c κs. search needs) (λ c. search needs) returns-2)

@@ -5,7 +5,7 @@ use native.Mathlib.Omega.{arith}
 use borrow.Author.Needs.{needs}
 use lib.IntN.{natAbs}
 use Rattle.element_calls.proofs.SignedBytes.{byte-is, byte-below}
-use Rattle.hecke.specs.declared.blocks.Way.the-variants.{Forward, Backward}
+use Rattle.block_loops.specs.declared.Way.the-variants.{Forward, Backward}
 use Rattle.hecke.specs.Steps.{lettered, LetterPre}
 use Rattle.hecke.proofs.SignedAction.{forward-is, backward-is}
 use Rattle.hecke.proofs.letters.signed_letter.Statement.{statement}

@@ -31,18 +31,14 @@ letter-requires c κs = let y = first c in letter-pre (start (y .before) .pre) (
 shared-slice-read-add-multiple : tie.Need-shared-slice-read-add-multiple
 shared-slice-read-add-multiple c = omega (arith, start (first (second c .before) .before) .pre .right, size-two)
 
-add-multiple-requires : tie.Need-add-multiple-requires
-add-multiple-requires c κs =
-    let z = second c in let y = first (z .before) in let s = start (y .before) in
-    z .letter .kept .0 ∙ y .multiple .kept .0 ∙ s .pre .result ∙ sym (s .pre .left)
-
 returns : tie.Need-returns
 returns c =
     let sum = c .before .before in let z = second (sum .before) in let y = first (z .before) in let s = start (y .before) in
-    one-whole (s .pre) (s .args .p) (y .multiple .kept .0) (y .multiple .ensures) (z .letter .ensures) (sum .add-multiple .ensures)
+    one-whole (s .pre) (s .args .p) (y .multiple .kept .0) (y .multiple .ensures) (z .letter .kept .0) (z .letter .ensures)
+    (sum .add-multiple .ensures)
 
 pub times-one-spec : {M : Type 1} → statement M
 times-one-spec =
     tie.close
-    (tie.spec shared-slice-read-multiple multiple-requires letter-requires shared-slice-read-add-multiple add-multiple-requires (λ c. search needs)
+    (tie.spec shared-slice-read-multiple multiple-requires letter-requires shared-slice-read-add-multiple (λ c κs. search needs) (λ c. search needs)
     returns)

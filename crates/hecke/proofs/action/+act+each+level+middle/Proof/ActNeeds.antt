@@ -6,8 +6,9 @@ use native.Mathlib.Omega.{arith}
 use Rattle.algebra.proofs.NestedLetter.{nested-letter}
 use Rattle.element_calls.specs.declared.Parameters.{Parameters}
 use Rattle.element_calls.specs.Coefficients.{ring}
-use Rattle.hecke.specs.declared.blocks.Way.the-variants.{Forward}
-use Rattle.hecke.specs.Steps.{exchanging, lettered, acted, LetterPre, ActPre}
+use Rattle.block_loops.specs.declared.Way.the-variants.{Forward}
+use Rattle.block_loops.specs.InPlace.{exchanging}
+use Rattle.hecke.specs.Steps.{lettered, acted, LetterPre, ActPre}
 use Rattle.hecke.proofs.Pieces.{acted-none}
 use Rattle.hecke.proofs.action.+act+each+level+middle.Proof.Measures.{act-at, level-below}
 use Rattle.hecke.proofs.action.act.Reads as act

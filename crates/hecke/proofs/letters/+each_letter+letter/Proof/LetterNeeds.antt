@@ -8,8 +8,8 @@ use borrow.Fn.Kinds.{In}
 use borrow.Fn.PlainCycle.{is, falls, and}
 use Rattle.hecke.specs.Steps.{lettered, LetterPre}
 use Rattle.lists.proofs.Cuts.{high-within, middle-end, high-end, cut-length}
-use Rattle.hecke.proofs.LowRanks.{rank-one-size, exchanged-one}
-use Rattle.hecke.proofs.LetterCut.{cut, low-pre, two-blocks, high-pre, all-back}
+use Rattle.hecke.proofs.LowRanks.{exchanged-one}
+use Rattle.hecke.proofs.LetterCut.{cut, low-pre, high-pre, all-back}
 use Rattle.hecke.proofs.letters.each_letter.Reads as each-letter
 use Rattle.hecke.proofs.letters.each_letter.Kinds as each-letter-kinds
 use Rattle.hecke.proofs.letters.letter.Reads as letter
@@ -17,7 +17,7 @@ use Rattle.hecke.proofs.letters.letter.Kinds as letter-kinds
 use Rattle.hecke.proofs.letters.+each_letter+letter.Lts-letter as lts
 use Rattle.hecke.proofs.letters.letter_of_rank_three.Reads as three-reads
 use Rattle.hecke.proofs.letters.letter_of_rank_two.Reads as two-reads
-use Rattle.hecke.proofs.blocks.exchange.Reads as exchange-reads
+use Rattle.block_loops.proofs.exchange.Reads as exchange-reads
 use Rattle.hecke.proofs.size.Reads as size-reads
 use Rattle.hecke.proofs.letters.+each_letter+letter.Proof.EachNeeds.{μ-each, μ-letter}
 
@@ -86,9 +86,6 @@ module _ (t : ℕ) where
       let u = two .before .before .before .args in
       after .letter-of-rank-two .ensures ∙ ap (λ (n : ℕ). lettered (u .way) (u .p) n (u .j) (u .x .now)) (sym (two .if2 .taken))
 
-  pub exchange-requires : lts.Need-exchange-requires claims asked letter.Post
-  exchange-requires c κs = let test = c .before in rank-one-size (test .if3 .taken) (test .before .before .before .before .pre .1)
-
   pub returns-3 : lts.Need-returns-3 claims asked letter.Post
   returns-3 c =
       let after = c .before .before in
@@ -108,11 +105,6 @@ module _ (t : ℕ) where
   middle-ends c =
       let l = c .before .before in
       middle-end (cut (start (sized l) .pre .1) (sized l .size .ensures)) (l .each-letter .last .0) (l .each-letter .kept .0)
-
-  pub middle-requires : lts.Need-exchange-requires-2 claims asked letter.Post
-  middle-requires c κs =
-      let l = c .before .before .before in
-      two-blocks (start (sized l) .pre .1) (sized l .size .ensures) (l .each-letter .last .0) (l .each-letter .kept .0)
 
   pub high-ends : lts.Need-sub-each-letter-3 claims asked letter.Post
   high-ends c =

@@ -1,0 +1,3 @@
+mod Paired
+mod Lowered
+pub mod Fits
