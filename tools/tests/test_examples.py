@@ -110,17 +110,40 @@ class Polynomials(unittest.TestCase):
                 self.assertEqual(at(found, q), whole)
                 self.assertTrue(all(-((q - 1) // 2) <= digit <= q // 2 for digit in found))
 
+    def refuses(self, wrong, given, plain, inverse):
+        with self.assertRaises(ValueError) as caught:
+            described(given, plain, inverse)
+        self.assertEqual(str(caught.exception), wrong)
+
     def test_refused(self):
         text = printed(to_bytes(text_of(FIVE_TWO, 101)))
         for given, plain, inverse, wrong in (
                 ('', 0, 0, 'no register is shown'), ('E 9 0\n', 0, 0, 'no register is shown'),
                 ('H 1 3\nN 0\n', 0, 0, 'no register is shown'),
-                (text, 4, 1, 'the coefficients are not those of a braid with 4 plain and 1 inverse letters'),
+                ('H 1 3\nR 0\n0 1\n', 0, 0, 'the output is cut off: no line comes after the register'),
                 (text, 7, 2, 'q = 101 is below 2, or too large for 9 letters of rank 2'),
+                (text, 100000000, 0, '100000000 letters are more than 4096'),
+                (text, 4096, 1, '4097 letters are more than 4096'),
+                (text, 4095, 1, 'q = 101 is below 2, or too large for 4096 letters of rank 2'),
                 ('H 1 1\nR 0\n0 1\nN 0\n', 0, 0, 'q = 1 is below 2, or too large for 0 letters of rank 1')):
-            with self.assertRaises(ValueError) as caught:
-                described(given, plain, inverse)
-            self.assertEqual(str(caught.exception), wrong)
+            self.refuses(wrong, given, plain, inverse)
+
+    def test_wrong_numbers_of_letters(self):
+        """A letter too few, and the left-handed trefoil as the other; then what the sum, the bound, the division alone refuses."""
+        for word, q, plain, inverse in ((FIVE_TWO, 101, 4, 1), (mirror(TREFOIL), 3, 3, 0), ((2, 2, 2), 3, 2, 0),
+                                        ((-3, -3, -3, 1, 1, 2), 3, 0, 0), ((1, 1, -2, -2) * 7, 3, 10, 10)):
+            self.refuses(f'the coefficients are not those of a braid with {plain} plain and {inverse} inverse letters',
+                         printed(to_bytes(text_of(word, q))), plain, inverse)
+
+    def test_wrong_lines(self):
+        """Each number at its bound and past it; after the first line, one of the register."""
+        words = f'Y from 0 to {WORD - 1}'
+        for head in ('H', 'H 1', 'H 1 3 5', 'H x 3', 'H -1 3', 'H 6 3', f'H 1 {WORD}', 'H  1 3', f'H 1 {"1" * 5000}'):
+            self.refuses(f'expected "H X Y", X from 0 to 5 and {words}, found "{head}"', f'{head}\nR 0\n0 1\nN 0\n', 0, 0)
+        for line in ('5 1', '2 1', '-1 1', '1', '1 2 3', '', 'x', '1 -1', f'1 {WORD}'):
+            self.refuses(f'expected "X Y", X from 0 to 1 and {words}, found "{line}"', f'H 1 3\nR 0\n0 1\n{line}\nN 0\n', 0, 0)
+        most = WORD - 1
+        self.assertEqual(shown(f'H 5 {most}\nP 7\nR 0\n719 {most}\nR 1\n0 1\nN 0\n'), (5, most, {719: most}))
 
 
 class Examples(unittest.TestCase):
@@ -170,7 +193,7 @@ class CommandLine(unittest.TestCase):
 
     def test_wrong(self):
         self.assertEqual(self.run_tool('0', '0', given='E 9 0\n'), (1, '', 'no register is shown\n'))
-        for arguments in ((), ('1',), ('1', 'x'), ('1', '2', '3', '4'), ('1', '2', 'no such file')):
+        for arguments in ((), ('1',), ('1', 'x'), ('1', '9' * 5000), ('1', '2', '3', '4'), ('1', '2', 'no such file')):
             status, out, error = self.run_tool(*arguments)
             self.assertEqual((status, out), (1, ''))
             self.assertNotEqual(error, '')
