@@ -4,14 +4,15 @@
     tools/alexander.py PLAIN INVERSE [FILE]
 
 PLAIN and INVERSE are the numbers of letters of each kind in the braid word, which acted on the unit. Of what was printed, the
-first register shown counts; without FILE, standard input is read. The exit status is 1 where no register was shown, where a
-line is not one that a sheet prints, where there are over 4,096 letters, where q is below 2 or too large for so many letters,
-and where the last paragraph shows that the coefficients are not those of such a braid; else 0.
+first register shown counts; without FILE, standard input is read. With A for the Alexander polynomial, this prints A(q) up to
+sign and powers of q, and the polynomial that has this value. The exit status is 1 where no register was shown, where a line is
+not one that a sheet prints, where there are over 4,096 letters, where q is below 2 or too large for so many letters, and where
+the last paragraph shows that the coefficients are not those of such a braid; else 0.
 
 The reduced Burau matrix of a generator s_i is S: the unit matrix but for row i, with t, -t and 1 around the diagonal. It has
 S S = (1 - t) S + t, so that -S at t = q is a matrix for T_i. The sum over w of w's coefficient times the matrices along w's
-standard word is, up to the sign of an odd number of letters, the braid's matrix B; det(1 - B) is (1 + q + .. + q^m) A(q), up to
-a sign and a power of q, where A is the Alexander polynomial.
+standard word is, up to the sign of an odd number of letters, the braid's matrix B; det(1 - B) is (1 + q + .. + q^m) A(q) up to
+sign and powers of q.
 
 All this is modulo 2^64. Times q for each inverse letter it is a polynomial in q with whole coefficients. The absolute values in
 a row of S, and of each of its matrices of minors, add up to at most 2q + 1; so do those of its inverse, times q. So the
@@ -107,7 +108,7 @@ def closure(m, q, element, letters):
 
 
 def value(m, q, element, plain, inverse):
-    """A(q) as a whole number, without its sign and its powers of q."""
+    """A(q) up to sign and powers of q: a whole number that is 0 or that q does not divide."""
     letters = plain + inverse
     if letters > MOST_LETTERS:
         raise ValueError(f'{letters} letters are more than {MOST_LETTERS}')
@@ -144,11 +145,12 @@ def polynomial(coefficients):
 
 
 def described(text, plain, inverse):
-    """The value of the polynomial, and the polynomial itself if q is large enough."""
+    """A(q) up to sign and powers of q, and the polynomial itself if q is large enough."""
     m, q, element = shown(text)
     whole = value(m, q, element, plain, inverse)
     read = polynomial(list(digits(q, whole)))
-    return f'value at t = {q}: {whole}\npolynomial, if each coefficient is from {-((q - 1) // 2)} to {q // 2}: {read}\n'
+    return (f'value at t = {q}, up to sign and powers of {q}: {whole}\n'
+            f'polynomial, if each coefficient is from {-((q - 1) // 2)} to {q // 2}: {read}\n')
 
 
 def main(arguments):

@@ -21,11 +21,11 @@ PARAMETERS = 3, 5, 7, 101, 0x9E37_79B9_7F4A_7C15, WORD - 5
 
 # braids of knots, with the coefficients of their Alexander polynomials, from the tables of knots; the number of strands is one
 # more than the largest letter
-TREFOIL, FIGURE_EIGHT, FIVE_TWO = (1, 1, 1), (1, -2, 1, -2), (1, 1, 1, 2, -1, 2)
+TREFOIL, FIGURE_EIGHT, FIVE_TWO, SEVEN_TWO = (1, 1, 1), (1, -2, 1, -2), (1, 1, 1, 2, -1, 2), (1, 1, 1, 2, -1, 2, 3, -2, 3)
 KNOTS = {
     (1,): (1,), (1, -2): (1,), TREFOIL: (1, -1, 1), FIGURE_EIGHT: (1, -3, 1), (1,) * 5: (1, -1, 1, -1, 1), FIVE_TWO: (2, -3, 2),
     (1, 1, 2, -1, -3, 2, -3): (2, -5, 2), (-1, -1, -1, 2, -1, 2): (1, -3, 3, -3, 1), (-1, -1, 2, -1, 2, 2): (1, -3, 5, -3, 1),
-    (1, 1, 1, -2, -1, -1, -1, -2): (1, -2, 3, -2, 1), (1, 2, 3, 4, 5): (1,), (-1, 2, -3, 4, -5): (1,),
+    (1, 1, 1, -2, -1, -1, -1, -2): (1, -2, 3, -2, 1), SEVEN_TWO: (3, -5, 3), (1, 2, 3, 4, 5): (1,), (-1, 2, -3, 4, -5): (1,),
 }
 NAMES = {'trefoil': TREFOIL, 'figure_eight': FIGURE_EIGHT, 'five_two': FIVE_TWO}
 
@@ -81,10 +81,13 @@ class Polynomials(unittest.TestCase):
                 self.assertNotIn(found, {unit * (wanted + 2) % WORD for unit in units}, (word, q))
 
     def test_whole_values(self):
+        """Of those that q divides, as 15 for the knot 7_2 at q = 3, what is left without the powers of q."""
         for word, coefficients in KNOTS.items():
             for q in (3, 11, 41):
                 found = shown(printed(to_bytes(text_of(word, q))))
-                self.assertEqual(value(*found, *kinds(word)), abs(at(coefficients, q)), (word, q))
+                due = 5 if (word, q) == (SEVEN_TWO, 3) else abs(at(coefficients, q))
+                self.assertEqual(value(*found, *kinds(word)), due, (word, q))
+        self.assertEqual(at(KNOTS[SEVEN_TWO], 3), 15)
 
     def test_coefficients(self):
         """At q = 41, above twice each coefficient, the digits are the coefficients; a mirror image has the same."""
@@ -96,7 +99,7 @@ class Polynomials(unittest.TestCase):
     def test_plain_letters_at_even_q(self):
         text = printed(to_bytes(text_of(TREFOIL, 10)))
         read = 'polynomial, if each coefficient is from -4 to 5: t^2 - t + 1'
-        self.assertEqual(described(text, 3, 0), f'value at t = 10: 91\n{read}\n')
+        self.assertEqual(described(text, 3, 0), f'value at t = 10, up to sign and powers of 10: 91\n{read}\n')
 
     def test_as_it_is_written(self):
         for coefficients, text in (((), '0'), ((0, 0), '0'), ((1,), '1'), ((-1,), '-1'), ((0, 1), 't'), ((2, -1), '-t + 2'),
@@ -187,7 +190,8 @@ class CommandLine(unittest.TestCase):
 
     def test_file_and_standard_input(self):
         path = EXAMPLES / 'five_two.expected'
-        due = 'value at t = 101: 20101\npolynomial, if each coefficient is from -50 to 50: 2 t^2 - 3 t + 2\n'
+        due = ('value at t = 101, up to sign and powers of 101: 20101\n'
+               'polynomial, if each coefficient is from -50 to 50: 2 t^2 - 3 t + 2\n')
         self.assertEqual(self.run_tool('5', '1', str(path)), (0, due, ''))
         self.assertEqual(self.run_tool('5', '1', given=path.read_text()), (0, due, ''))
 

@@ -11,6 +11,7 @@ from reference.permutations import standard_word, tower
 from reference.sheet import MOST_BYTES, OPERANDS, check, printed
 from tools.alexander import described, image, shown, value
 from tools.sheet_text import CODES, FORMS, NAMES, refusal, to_bytes
+from tools.tests.test_examples import kinds, text_of
 
 ROOT = Path(__file__).resolve().parents[2]
 GUIDE = (ROOT / 'docs' / 'GUIDE.md').read_text(encoding='utf-8')
@@ -99,14 +100,17 @@ class Tables(unittest.TestCase):
         self.assertIn(f'so {letters:,} letters of either kind fit beside `begin`, `unit`, `show` and `end`', sentences)
 
     def test_alexander_polynomials(self):
-        """What the tool prints for the knot 5_2, its values for the figure-eight, and the trefoil by hand."""
+        """What the tool prints for the knot 5_2, its values for the figure-eight and 7_2, and the trefoil by hand."""
         sentences = ' '.join(GUIDE.split())
         said = described((ROOT / 'examples' / 'five_two.expected').read_text(), 5, 1)
         self.assertIn('\n\n' + ''.join(f'    {line}\n' for line in said.splitlines()) + '\n', GUIDE)
-        eight = 'begin 2 {}\nunit 0\nletters 0 1 -2 1 -2\nshow 0\nend'
-        small, large = (value(*shown(printed(to_bytes(eight.format(q)))), 2, 2) for q in (3, 101))
+        small, large = (value(*shown(printed(to_bytes(text_of((1, -2, 1, -2), q)))), 2, 2) for q in (3, 101))
         self.assertIn(f'At q = 3 the figure-eight has the value {small}, as the ring without a knot has', sentences)
         self.assertIn(f'at q = 101 it has {large}, and the polynomial is t^2 - 3 t + 1.', sentences)
+        word = 1, 1, 1, 2, -1, 2, 3, -2, 3
+        small, large = (described(printed(to_bytes(text_of(word, q))), *kinds(word)).splitlines() for q in (3, 41))
+        self.assertIn(f'The knot 7_2, with the letters `{" ".join(map(str, word))}`, has the polynomial {large[1].split(": ")[1]}, '
+                      f'which is {3 * 3 ** 2 - 5 * 3 + 3} at t = 3; there the tool prints {small[0].split(": ")[1]},', sentences)
         [[t]], (_, q, element) = image(1, 3, 1), shown((ROOT / 'examples' / 'trefoil.expected').read_text())
         total = element[0] + element[1] * t
         self.assertIn(f'{element[0]} + {element[1]} T_1 gives {element[0]} + {element[1]} · {t} = {total}', sentences)
