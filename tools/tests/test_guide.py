@@ -4,6 +4,7 @@ An example is a row of fenced blocks labelled `sheet`, `bytes`, `output`, and `e
 """
 import re
 import unittest
+from itertools import count
 from pathlib import Path
 
 from reference.algebra import letter_count, permutations, product_count, size
@@ -99,6 +100,12 @@ class Tables(unittest.TestCase):
         letters = (MOST_BYTES - len(rest)) // len(to_bytes('letter 0 1'))
         self.assertIn(f'so {letters:,} letters of either kind fit beside `begin`, `unit`, `show` and `end`', sentences)
 
+    def test_one_braid_in_other_letters(self):
+        self.assertIn('`1 2 1` and `2 1 2` are the same braid', ' '.join(GUIDE.split()))
+        for q in (1, 3, 101, 2 ** 64 - 1):
+            sheet = to_bytes(f'begin 2 {q}\nunit 0\nletters 0 1 2 1\nletters 0 -2 -1 -2\nunit 1\nequal 0 1\nend')
+            self.assertEqual(printed(sheet), f'H 2 {q}\nQ 1\nN 54\n')
+
     def test_alexander_polynomials(self):
         """What the tool prints for the knot 5_2, its values for the figure-eight and 7_2, and the trefoil by hand."""
         sentences = ' '.join(GUIDE.split())
@@ -115,3 +122,16 @@ class Tables(unittest.TestCase):
         total = element[0] + element[1] * t
         self.assertIn(f'{element[0]} + {element[1]} T_1 gives {element[0]} + {element[1]} · {t} = {total}', sentences)
         self.assertIn(f'is {1 + total}, and {1 + total} divided by 1 + {q} is {(1 + total) // (1 + q)},', sentences)
+
+    def test_most_letters_for_a_polynomial(self):
+        """How many of the letters 1 -1 1 -1 .. the tool takes at rank 2; they are T_1 or the unit."""
+        def most(q):
+            for letters in count(1):
+                try:
+                    value(2, q, {letters % 2: 1}, (letters + 1) // 2, letters // 2)
+                except ValueError as wrong:
+                    self.assertEqual(str(wrong), f'q = {q} is below 2, or too large for {letters} letters of rank 2')
+                    return letters - 1
+
+        self.assertIn(f'at rank 2 the tool takes at most {most(3)} letters at q = 3, and at most {most(101)} at q = 101;',
+                      ' '.join(GUIDE.split()))
