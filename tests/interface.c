@@ -100,6 +100,7 @@ static void due_answers(const uint64_t *words, size_t size) {
 #define NUMBERS(type, ...) (const type[]){__VA_ARGS__}, sizeof(type[]){__VA_ARGS__}
 #define BYTES_ARE(...) memcpy(due.bytes + GUARDS, NUMBERS(uint8_t, __VA_ARGS__))
 #define WORDS_ARE(...) memcpy(due.words + GUARDS, NUMBERS(uint64_t, __VA_ARGS__))
+#define ZERO_WORDS memset(due.words + GUARDS, 0, LARGEST * sizeof(uint64_t))
 #define ANSWERS(...) due_answers(NUMBERS(uint64_t, __VA_ARGS__) / sizeof(uint64_t))
 #define CLEARED(size) memset(due.scratch + GUARDS, 0, (size) * sizeof(uint64_t))
 #define ZEROS memset(due.registers + GUARDS, 0, 4 * REGISTER * sizeof(uint64_t))
@@ -286,15 +287,17 @@ static uint64_t act_signed_on_unit(size_t m, uint64_t q, const int8_t *word, siz
 /* The inverse of 3 modulo 2^64, and the figure-eight knot at q = 3: T_1 S T_1 S, where S is the inverse of T_2. With a for the
  * inverse of 3 and b for a - 1 its words are 3bb, 2bb, 3ab, 2ab, 3aa and 0. */
 #define THIRD 0xaaaaaaaaaaaaaaabu
-#define B (THIRD - 1)
-#define FIGURE_EIGHT 3 * B * B, 2 * B * B, B, 2 * THIRD * B, THIRD, 0
+#define THIRD_LESS_1 (THIRD - 1)
+#define FIGURE_EIGHT \
+    3 * THIRD_LESS_1 * THIRD_LESS_1, 2 * THIRD_LESS_1 * THIRD_LESS_1, THIRD_LESS_1, 2 * THIRD * THIRD_LESS_1, THIRD, 0
 
 static void signed_word_actions(void) {
     const int8_t there[] = {1, 1, -1}, eight[] = {1, -2, 1, -2}, back[] = {2, -1, 2, -1}, turned[] = {-1, 1};
     const int8_t bad[] = {-1, 3, 0}, below[] = {1, -3}, least[] = {-1, -128}, zero[] = {-2, 0}, late[] = {1, 2, -2, -1};
+    const int8_t last[] = {-6, 6, -7};
     static int8_t longest[4097];
     for (size_t i = 0; i < sizeof longest; i++) longest[i] = i % 2 == 0 ? 1 : -1;
-    GIVES(act_signed_on_unit(1, 3, turned, 1), WORDS_ARE(B, THIRD), ANSWERS(3));
+    GIVES(act_signed_on_unit(1, 3, turned, 1), WORDS_ARE(THIRD_LESS_1, THIRD), ANSWERS(3));
     GIVES(act_signed_on_unit(1, 3, turned, 2), WORDS_ARE(1, 0), ANSWERS(6));
     GIVES(act_signed_on_unit(1, 3, there, 2), WORDS_ARE(3, 2), ANSWERS(6));
     GIVES(act_signed_on_unit(1, 3, there, 3), WORDS_ARE(0, 1), ANSWERS(9));
@@ -309,6 +312,12 @@ static void signed_word_actions(void) {
     GIVES(act_signed_on_unit(1, 3, longest, 4096), WORDS_ARE(1, 0), ANSWERS(12288));
     GIVES(act_signed_on_unit(1, 3, longest, 4095), WORDS_ARE(0, 1), ANSWERS(12285));
     GIVES(act_signed_on_unit(1, 2, there, 2), WORDS_ARE(2, 1), ANSWERS(6));
+    /* rank 6: s_1 has index 1 and s_6 index 720, and a letter counts 3 x 5,040 / 2 */
+    GIVES(act_signed_on_unit(6, 3, turned, 1), ZERO_WORDS, WORDS_ARE(THIRD_LESS_1, THIRD), ANSWERS(7560));
+    GIVES(act_signed_on_unit(6, 3, turned, 2), ZERO_WORDS, WORDS_ARE(1), ANSWERS(15120));
+    GIVES(act_signed_on_unit(6, 3, last, 1), ZERO_WORDS, WORDS_ARE(THIRD_LESS_1), due.words[GUARDS + 720] = THIRD, ANSWERS(7560));
+    GIVES(act_signed_on_unit(6, 3, last, 2), ZERO_WORDS, WORDS_ARE(1), ANSWERS(15120));
+    REFUSED(hecke_act_signed_word(6, 3, SIGNED(last), WORDS(5040), ANSWER), 4, 2);
     REFUSED(hecke_act_signed_word(1, 3, SIGNED(longest), WORDS(2), ANSWER), 4, 4096);
     REFUSED(hecke_act_signed_word(1, 2, SIGNED(longest), WORDS(2), ANSWER), 4, 4096);
     REFUSED(hecke_act_signed_word(1, 2, SIGNED_PART(longest, 4096), WORDS(2), ANSWER), 15, 1);

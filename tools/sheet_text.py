@@ -76,6 +76,17 @@ def crossing(r, text):
         raise ValueError(f'I: expected a number from -255 to 255, found "{text}"') from None
 
 
+def hint(r, text):
+    """What to write in the place of a letter command that is refused, if the letter is a number with the sign -."""
+    if text[0] != '-':
+        return ''
+    try:
+        crossing(r, text)
+    except ValueError:
+        return ''
+    return f'; write "inverse {r} {text[1:]}" or "letters {r} {text}"'
+
+
 def line_bytes(name, *texts):
     """The bytes of one line."""
     if name == 'letters' and len(texts) > 1:
@@ -87,7 +98,10 @@ def line_bytes(name, *texts):
     if name not in CODES or len(texts) != len(OPERANDS[CODES[name]]):
         raise ValueError(f'expected "{FORMS[name]}", found "{" ".join([name, *texts])}"')
     code = CODES[name]
-    return command(code, *(operand(*of, text) for of, text in zip(OPERANDS[code].items(), texts)))
+    try:
+        return command(code, *(operand(*of, text) for of, text in zip(OPERANDS[code].items(), texts)))
+    except ValueError as wrong:
+        raise ValueError(f'{wrong}{hint(*texts) if code == LETTER else ""}') from None
 
 
 def to_bytes(text):

@@ -21,11 +21,11 @@ PARAMETERS = 3, 5, 7, 101, 0x9E37_79B9_7F4A_7C15, WORD - 5
 
 # braids of knots, with the coefficients of their Alexander polynomials, from the tables of knots; the number of strands is one
 # more than the largest letter
-TREFOIL, FIGURE_EIGHT, FIVE_TWO = (1, 1, 1), (1, -2, 1, -2), (1, 1, 1, 2, -1, 2)
+TREFOIL, FIGURE_EIGHT, FIVE_TWO, SEVEN_TWO = (1, 1, 1), (1, -2, 1, -2), (1, 1, 1, 2, -1, 2), (1, 1, 1, 2, -1, 2, 3, -2, 3)
 KNOTS = {
     (1,): (1,), (1, -2): (1,), TREFOIL: (1, -1, 1), FIGURE_EIGHT: (1, -3, 1), (1,) * 5: (1, -1, 1, -1, 1), FIVE_TWO: (2, -3, 2),
     (1, 1, 2, -1, -3, 2, -3): (2, -5, 2), (-1, -1, -1, 2, -1, 2): (1, -3, 3, -3, 1), (-1, -1, 2, -1, 2, 2): (1, -3, 5, -3, 1),
-    (1, 1, 1, -2, -1, -1, -1, -2): (1, -2, 3, -2, 1), (1, 2, 3, 4, 5): (1,), (-1, 2, -3, 4, -5): (1,),
+    (1, 1, 1, -2, -1, -1, -1, -2): (1, -2, 3, -2, 1), SEVEN_TWO: (3, -5, 3), (1, 2, 3, 4, 5): (1,), (-1, 2, -3, 4, -5): (1,),
 }
 NAMES = {'trefoil': TREFOIL, 'figure_eight': FIGURE_EIGHT, 'five_two': FIVE_TWO}
 
@@ -81,10 +81,13 @@ class Polynomials(unittest.TestCase):
                 self.assertNotIn(found, {unit * (wanted + 2) % WORD for unit in units}, (word, q))
 
     def test_whole_values(self):
+        """Of those that q divides, as 15 for the knot 7_2 at q = 3, what is left without the powers of q."""
         for word, coefficients in KNOTS.items():
             for q in (3, 11, 41):
                 found = shown(printed(to_bytes(text_of(word, q))))
-                self.assertEqual(value(*found, *kinds(word)), abs(at(coefficients, q)), (word, q))
+                due = 5 if (word, q) == (SEVEN_TWO, 3) else abs(at(coefficients, q))
+                self.assertEqual(value(*found, *kinds(word)), due, (word, q))
+        self.assertEqual(at(KNOTS[SEVEN_TWO], 3), 15)
 
     def test_coefficients(self):
         """At q = 41, above twice each coefficient, the digits are the coefficients; a mirror image has the same."""
@@ -96,7 +99,7 @@ class Polynomials(unittest.TestCase):
     def test_plain_letters_at_even_q(self):
         text = printed(to_bytes(text_of(TREFOIL, 10)))
         read = 'polynomial, if each coefficient is from -4 to 5: t^2 - t + 1'
-        self.assertEqual(described(text, 3, 0), f'value at t = 10: 91\n{read}\n')
+        self.assertEqual(described(text, 3, 0), f'value at t = 10, up to sign and powers of 10: 91\n{read}\n')
 
     def test_as_it_is_written(self):
         for coefficients, text in (((), '0'), ((0, 0), '0'), ((1,), '1'), ((-1,), '-1'), ((0, 1), 't'), ((2, -1), '-t + 2'),
@@ -110,17 +113,40 @@ class Polynomials(unittest.TestCase):
                 self.assertEqual(at(found, q), whole)
                 self.assertTrue(all(-((q - 1) // 2) <= digit <= q // 2 for digit in found))
 
+    def refuses(self, wrong, given, plain, inverse):
+        with self.assertRaises(ValueError) as caught:
+            described(given, plain, inverse)
+        self.assertEqual(str(caught.exception), wrong)
+
     def test_refused(self):
         text = printed(to_bytes(text_of(FIVE_TWO, 101)))
         for given, plain, inverse, wrong in (
                 ('', 0, 0, 'no register is shown'), ('E 9 0\n', 0, 0, 'no register is shown'),
                 ('H 1 3\nN 0\n', 0, 0, 'no register is shown'),
-                (text, 4, 1, 'the coefficients are not those of a braid with 4 plain and 1 inverse letters'),
+                ('H 1 3\nR 0\n0 1\n', 0, 0, 'the output is cut off: no line comes after the register'),
                 (text, 7, 2, 'q = 101 is below 2, or too large for 9 letters of rank 2'),
+                (text, 100000000, 0, '100000000 letters are more than 4096'),
+                (text, 4096, 1, '4097 letters are more than 4096'),
+                (text, 4095, 1, 'q = 101 is below 2, or too large for 4096 letters of rank 2'),
                 ('H 1 1\nR 0\n0 1\nN 0\n', 0, 0, 'q = 1 is below 2, or too large for 0 letters of rank 1')):
-            with self.assertRaises(ValueError) as caught:
-                described(given, plain, inverse)
-            self.assertEqual(str(caught.exception), wrong)
+            self.refuses(wrong, given, plain, inverse)
+
+    def test_wrong_numbers_of_letters(self):
+        """A letter too few, and the left-handed trefoil as the other; then what the sum, the bound, the division alone refuses."""
+        for word, q, plain, inverse in ((FIVE_TWO, 101, 4, 1), (mirror(TREFOIL), 3, 3, 0), ((2, 2, 2), 3, 2, 0),
+                                        ((-3, -3, -3, 1, 1, 2), 3, 0, 0), ((1, 1, -2, -2) * 7, 3, 10, 10)):
+            self.refuses(f'the coefficients are not those of a braid with {plain} plain and {inverse} inverse letters',
+                         printed(to_bytes(text_of(word, q))), plain, inverse)
+
+    def test_wrong_lines(self):
+        """Each number at its bound and past it; after the first line, one of the register."""
+        words = f'Y from 0 to {WORD - 1}'
+        for head in ('H', 'H 1', 'H 1 3 5', 'H x 3', 'H -1 3', 'H 6 3', f'H 1 {WORD}', 'H  1 3', f'H 1 {"1" * 5000}'):
+            self.refuses(f'expected "H X Y", X from 0 to 5 and {words}, found "{head}"', f'{head}\nR 0\n0 1\nN 0\n', 0, 0)
+        for line in ('5 1', '2 1', '-1 1', '1', '1 2 3', '', 'x', '1 -1', f'1 {WORD}'):
+            self.refuses(f'expected "X Y", X from 0 to 1 and {words}, found "{line}"', f'H 1 3\nR 0\n0 1\n{line}\nN 0\n', 0, 0)
+        most = WORD - 1
+        self.assertEqual(shown(f'H 5 {most}\nP 7\nR 0\n719 {most}\nR 1\n0 1\nN 0\n'), (5, most, {719: most}))
 
 
 class Examples(unittest.TestCase):
@@ -164,13 +190,14 @@ class CommandLine(unittest.TestCase):
 
     def test_file_and_standard_input(self):
         path = EXAMPLES / 'five_two.expected'
-        due = 'value at t = 101: 20101\npolynomial, if each coefficient is from -50 to 50: 2 t^2 - 3 t + 2\n'
+        due = ('value at t = 101, up to sign and powers of 101: 20101\n'
+               'polynomial, if each coefficient is from -50 to 50: 2 t^2 - 3 t + 2\n')
         self.assertEqual(self.run_tool('5', '1', str(path)), (0, due, ''))
         self.assertEqual(self.run_tool('5', '1', given=path.read_text()), (0, due, ''))
 
     def test_wrong(self):
         self.assertEqual(self.run_tool('0', '0', given='E 9 0\n'), (1, '', 'no register is shown\n'))
-        for arguments in ((), ('1',), ('1', 'x'), ('1', '2', '3', '4'), ('1', '2', 'no such file')):
+        for arguments in ((), ('1',), ('1', 'x'), ('1', '9' * 5000), ('1', '2', '3', '4'), ('1', '2', 'no such file')):
             status, out, error = self.run_tool(*arguments)
             self.assertEqual((status, out), (1, ''))
             self.assertNotEqual(error, '')

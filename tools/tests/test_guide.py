@@ -4,6 +4,7 @@ An example is a row of fenced blocks labelled `sheet`, `bytes`, `output`, and `e
 """
 import re
 import unittest
+from itertools import count
 from pathlib import Path
 
 from reference.algebra import letter_count, permutations, product_count, size
@@ -11,6 +12,7 @@ from reference.permutations import standard_word, tower
 from reference.sheet import MOST_BYTES, OPERANDS, check, printed
 from tools.alexander import described, image, shown, value
 from tools.sheet_text import CODES, FORMS, NAMES, refusal, to_bytes
+from tools.tests.test_examples import kinds, text_of
 
 ROOT = Path(__file__).resolve().parents[2]
 GUIDE = (ROOT / 'docs' / 'GUIDE.md').read_text(encoding='utf-8')
@@ -98,16 +100,38 @@ class Tables(unittest.TestCase):
         letters = (MOST_BYTES - len(rest)) // len(to_bytes('letter 0 1'))
         self.assertIn(f'so {letters:,} letters of either kind fit beside `begin`, `unit`, `show` and `end`', sentences)
 
+    def test_one_braid_in_other_letters(self):
+        self.assertIn('`1 2 1` and `2 1 2` are the same braid', ' '.join(GUIDE.split()))
+        for q in (1, 3, 101, 2 ** 64 - 1):
+            sheet = to_bytes(f'begin 2 {q}\nunit 0\nletters 0 1 2 1\nletters 0 -2 -1 -2\nunit 1\nequal 0 1\nend')
+            self.assertEqual(printed(sheet), f'H 2 {q}\nQ 1\nN 54\n')
+
     def test_alexander_polynomials(self):
-        """What the tool prints for the knot 5_2, its values for the figure-eight, and the trefoil by hand."""
+        """What the tool prints for the knot 5_2, its values for the figure-eight and 7_2, and the trefoil by hand."""
         sentences = ' '.join(GUIDE.split())
         said = described((ROOT / 'examples' / 'five_two.expected').read_text(), 5, 1)
         self.assertIn('\n\n' + ''.join(f'    {line}\n' for line in said.splitlines()) + '\n', GUIDE)
-        eight = 'begin 2 {}\nunit 0\nletters 0 1 -2 1 -2\nshow 0\nend'
-        small, large = (value(*shown(printed(to_bytes(eight.format(q)))), 2, 2) for q in (3, 101))
+        small, large = (value(*shown(printed(to_bytes(text_of((1, -2, 1, -2), q)))), 2, 2) for q in (3, 101))
         self.assertIn(f'At q = 3 the figure-eight has the value {small}, as the ring without a knot has', sentences)
         self.assertIn(f'at q = 101 it has {large}, and the polynomial is t^2 - 3 t + 1.', sentences)
+        word = 1, 1, 1, 2, -1, 2, 3, -2, 3
+        small, large = (described(printed(to_bytes(text_of(word, q))), *kinds(word)).splitlines() for q in (3, 41))
+        self.assertIn(f'The knot 7_2, with the letters `{" ".join(map(str, word))}`, has the polynomial {large[1].split(": ")[1]}, '
+                      f'which is {3 * 3 ** 2 - 5 * 3 + 3} at t = 3; there the tool prints {small[0].split(": ")[1]},', sentences)
         [[t]], (_, q, element) = image(1, 3, 1), shown((ROOT / 'examples' / 'trefoil.expected').read_text())
         total = element[0] + element[1] * t
         self.assertIn(f'{element[0]} + {element[1]} T_1 gives {element[0]} + {element[1]} · {t} = {total}', sentences)
         self.assertIn(f'is {1 + total}, and {1 + total} divided by 1 + {q} is {(1 + total) // (1 + q)},', sentences)
+
+    def test_most_letters_for_a_polynomial(self):
+        """How many of the letters 1 -1 1 -1 .. the tool takes at rank 2; they are T_1 or the unit."""
+        def most(q):
+            for letters in count(1):
+                try:
+                    value(2, q, {letters % 2: 1}, (letters + 1) // 2, letters // 2)
+                except ValueError as wrong:
+                    self.assertEqual(str(wrong), f'q = {q} is below 2, or too large for {letters} letters of rank 2')
+                    return letters - 1
+
+        self.assertIn(f'at rank 2 the tool takes at most {most(3)} letters at q = 3, and at most {most(101)} at q = 101;',
+                      ' '.join(GUIDE.split()))

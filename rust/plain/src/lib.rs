@@ -1,8 +1,8 @@
-//! Document 01 and the laboratory's later requests in plain Rust: an implementation that shares no code with the library, to
+//! Document 01 and the first request of document 02 in plain Rust: an implementation that shares no code with the library, to
 //! compare the library with.
 //!
 //! The functions named here have the library's signatures. Each judges what it is given in the order of document 01's table and
-//! of the requests, and writes only when nothing is refused. The modules also have the mathematics by itself, with no checks.
+//! of that request, and writes only when nothing is refused. The modules also have the mathematics by itself, with no checks.
 
 pub mod count;
 pub mod element;
