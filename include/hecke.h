@@ -2,8 +2,8 @@
  *
  * Every call is total: it returns for all numbers and all slices, reads and writes only within the slices, and checks all
  * that it is given before it writes. All but hecke_size and hecke_scratch_size return one word: 0, or else the refusal, which
- * is its number plus 256 times its place, both as document 01 has them, and 15 as the later request on crossings both ways. A
- * refused call leaves every lent slice as it was. HECKE_NUMBER and HECKE_PLACE take the word apart. The place of an image, an
+ * is its number plus 256 times its place, both as document 01 has them, and 15 and its places as document 02, Ticket 1, has them.
+ * A refused call leaves every lent slice as it was. HECKE_NUMBER and HECKE_PLACE take the word apart. The place of an image, an
  * entry or a letter is its index, from 0, and that of a command its offset; it is 0 where no place is named, and at most 4,096.
  *
  * A slice is a pointer and the number of its elements. A null pointer with length 0 is an empty slice. What is the caller's

@@ -6,9 +6,10 @@
 --   Onto f good ok    so is every y that is ok
 use mathlib.Core.Path.{_≡_, refl, sym, ap, ap₂, _∙_, subst}
 use mathlib.Core.List.{List, [], _∷_, map}
-use Prim.Native.Nat.{ℕ}
+use Prim.Native.Nat.{ℕ, suc}
 use lib.ListN.{length, length-map}
 use Rattle.lists.specs.Lists.{All}
+use Rattle.lists.specs.Numbers.{factorial}
 use Rattle.algebra.specs.Element.{Element}
 
 abbrev pub any : {A : Type 0} → A → Type 0
@@ -39,6 +40,14 @@ module _ {X Y : Type 0} {f : X → Y} {good : X → Type 0} {ok : Y → Type 0} 
           subst (P y y') (x .is) (every2 (λ y y'. P y y' (f″ (x .of))) (λ z z' a a'. k z z' (x .of) a a' (x .fit)) y y' e e')
 
 -- ---- elements
+
+everything : {A : Type 0} (h : List A) → All any h
+everything [] = tt
+everything (a ∷ h) = (tt, everything h)
+
+-- where every coefficient is meant, a list of (m + 1)! of them is an element
+pub sized : {A : Type 0} {m : ℕ} {h : List A} → length h ≡ factorial (suc m) → Element any m h
+sized {h = h} e = record { size = e; each = everything h }
 
 module _ {A B : Type 0} {f : A → B} {ok : B → Type 0} (s : Onto f any ok) where
   lists : (h : List B) → All ok h → From (map f) (All any) h

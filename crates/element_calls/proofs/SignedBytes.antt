@@ -31,7 +31,7 @@ module _ (z : ℤ) (f : SFits w8 z) where
   pub widens : SFits w64 (byte z)
   widens = subst (SFits w64) (sym byte-is) wide-fits
 
-  pub wide-is : wide z ≡ z
+  wide-is : wide z ≡ z
   wide-is = ap (λ y. toZ w64 (ofZ w64 y)) byte-is ∙ toZ-ofZ w64 z wide-fits
 
   -- its size
@@ -42,7 +42,7 @@ module _ (z : ℤ) (f : SFits w8 z) where
       go (pos n) f = record { sfits = omega (arith, f .sfits) }
       go (negsuc n) f = record { sfits = omega (arith, f .sfits) }
 
-  pub size-fits : Fits w64 (natAbs z)
+  size-fits : Fits w64 (natAbs z)
   size-fits = record { fits = omega (arith, size-signed .sfits) }
 
 -- ---- negated
@@ -83,7 +83,7 @@ module _ (z : ℤ) (f : SFits w8 z) (e : ltZ (wide z) (pos 0) ≡ false) where
 
 -- ---- the test of the code
 
-pub below-is : (z : ℤ) → isBelow z ≡ ltZ z (pos 0)
+below-is : (z : ℤ) → isBelow z ≡ ltZ z (pos 0)
 unfolding isBelow
 below-is (pos n) = sym (not-less n)
   where

@@ -1,5 +1,5 @@
 -- Which calls with words of signed letters are taken, that they write elements, and that for odd q a word and then its mirror bring an element home.
--- Rests on SignedVerdicts, Refusals, Answers, Accepts, signed_words' SignedModular, Mirrors and PlainWords, inverses' Search and Odd, and algebra's Modular.
+-- Rests on SignedVerdicts, Refusals, Answers, Accepts, signed_words' SignedModular, Mirrors and PlainWords, inverses' Search and Parity, and algebra's Modular.
 use mathlib.Core.Path.{_≡_, refl, sym, ap, _∙_, subst}
 use mathlib.Core.Logic.{_⊎_, inl, inr}
 use mathlib.Core.Bool.{true}
@@ -11,7 +11,7 @@ use lib.IntN.{ℤ, natAbs}
 use Rattle.ring.specs.Modular.{wordModulus, words}
 use Rattle.inverses.specs.Inverses.{IsInverse, hasInverse}
 use Rattle.inverses.proofs.Search.{inverses}
-use Rattle.inverses.proofs.Odd.{word-inverses}
+use Rattle.inverses.proofs.Parity.{word-inverses}
 use Rattle.refusals.specs.Refusals.{reported}
 use Rattle.refusals.specs.declared.Verdict.{Verdict}
 use Rattle.refusals.specs.declared.Verdict.the-variants.{Accepted, Refused}
@@ -59,7 +59,7 @@ module _ (m q : ℕ) where
     signed-by e = word-signed m hq (has e .below) (has e .product)
 
     pub odd : q % 2 ≡ 1 → hasInverse wordModulus q ≡ true
-    odd e = word-inverses q hq .odd e
+    odd e = word-inverses q .odd e
 
     -- ---- what is taken, and that it writes elements
 

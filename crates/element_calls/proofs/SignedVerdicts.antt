@@ -51,21 +51,21 @@ module _ (m : ℕ) (x : List ℤ) where
 
 -- ---- check 15
 
-module _ (x : List ℤ) where
-  -- the test that a letter is below 0
-  abbrev below : ℕ → Bool
-  below i = isBelow (getD x i (pos 0))
+-- the test that a letter is below 0
+abbrev pub belowAt : List ℤ → ℕ → Bool
+belowAt x i = isBelow (getD x i (pos 0))
 
+module _ (x : List ℤ) where
   pub all-plain : length x ≤ firstBelow x → NoneBelow x
   unfolding firstBelow
-  all-plain h = all-index (λ z. isBelow z ≡ false) x (pos 0) (λ i l. passed below 0 (length x) i (omega arith) (omega arith))
+  all-plain h = all-index (λ z. isBelow z ≡ false) x (pos 0) (λ i l. passed (belowAt x) 0 (length x) i (omega arith) (omega arith))
 
-  pub plain-past : NoneBelow x → firstBelow x ≡ length x
+  plain-past : NoneBelow x → firstBelow x ≡ length x
   unfolding firstBelow
-  plain-past w = first-past below 0 (length x) (λ i k l. all-getD (λ z. isBelow z ≡ false) x i (pos 0) (omega arith) w) ∙ omega arith
+  plain-past w = first-past (belowAt x) 0 (length x) (λ i k l. all-getD (λ z. isBelow z ≡ false) x i (pos 0) (omega arith) w) ∙ omega arith
 
 module _ (q : ℕ) (x : List ℤ) where
-  pub inverse-accepted : inverseVerdict q x ≡ Accepted → NoneBelow x ⊎ (hasInverse wordModulus q ≡ true)
+  inverse-accepted : inverseVerdict q x ≡ Accepted → NoneBelow x ⊎ (hasInverse wordModulus q ≡ true)
   unfolding inverseVerdict
   inverse-accepted e = go (less (firstBelow x) (length x)) refl (hasInverse wordModulus q) refl
       (accepts-unless (less (firstBelow x) (length x) && not (hasInverse wordModulus q)) (R.NoInverse (firstBelow x)) e)

@@ -1,5 +1,5 @@
 -- The element calls, whole: for all inputs, what a call answers and what its lent slices then hold (document 01, "Elements and their product" and
--- "Where each thing is checked").
+-- "Where each thing is checked", and document 02, Ticket 1).
 --
 --   rankVerdict m                 1: on the rank
 --   sizeVerdict m n               2: on an element's slice of n words

@@ -1,5 +1,5 @@
--- The ring of the coefficients and the parameters of the algebra, as one value (document 01, "Elements and their product"). Code and contracts hand
--- on a struct `Parameters` of q and r.
+-- The ring of the coefficients and the parameters of the algebra, as one value (document 01, "Elements and their product"), and those of the inverse of
+-- q (document 02, Ticket 1). Code and contracts hand on a struct `Parameters` of q and r.
 --
 --   modulus p        the modulus of sums and products of coefficients: 2^64
 --   ring p           the operations on coefficients

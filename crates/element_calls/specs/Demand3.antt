@@ -1,4 +1,5 @@
--- Demand 3, whole (document 01, "Contracts and cases"): one claim about what the four calls write.
+-- Demand 3, whole (document 01, "Contracts and cases"): one claim about what the calls for the sum, the scaling, the action of
+-- a word of plain letters and the product write.
 --
 --   E m q h        h is an element of rank m: a slice of M = (m + 1)! words
 --   Lawful m q     the claim for one rank m and one word q. There `calls` are the lists that the calls write: the result slice, for the word action the

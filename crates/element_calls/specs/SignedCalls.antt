@@ -1,5 +1,5 @@
--- What is claimed of the action of words of signed letters. There t i is T_i, t' i is q' T_i + (q' - 1) for the inverse q' of q, and E m q h says, as in
--- Demand3, that h is an element of rank m.
+-- What is claimed of the action of words of signed letters (document 02, Ticket 1). There t i is T_i, t' i is q' T_i + (q' - 1) for the inverse q' of q,
+-- and E m q h says, as in Demand3, that h is an element of rank m.
 --
 --   Home m q x y h      the call with the word x on h, and then a second call with the word y on what the first wrote, are taken, and the second
 --                       writes h
@@ -84,6 +84,6 @@ pub record SignedCalls : Type 0 where
   -- a word with no letter below 0 is answered as that word of plain letters, refusals included
   pub plain : (m q : ℕ) (x h : List ℕ) → actSignedWordCall m q (map pos x) h ≡ actWordCall m q x h
   -- 15 is answered for the letter i exactly where no earlier check refuses, q is even, and i is the first letter below 0
-  pub no-inverse : (m q : ℕ) → Coefficient (parametersOf q) q → (x : List ℤ) (h : List ℕ) (i : ℕ)
+  pub no-inverse : (m q : ℕ) (x : List ℤ) (h : List ℕ) (i : ℕ)
       → (actSignedWordCall m q x h .answer .verdict ≡ Refused (NoInverse i))
       ↔ (((rankVerdict m then sizeVerdict m (length h) then signedWordVerdict m x) ≡ Accepted) × (q % 2 ≡ 0) × FirstBelow x i)

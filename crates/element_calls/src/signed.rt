@@ -12,8 +12,8 @@ use refusals::Refusal;
 use refusals::Verdict;
 use refusals::then;
 
-// A letter without its sign.
-// Example: of -128 it is 128.
+// The absolute value of a letter.
+// Example: that of -128 is 128.
 pub fn size_of(z: i8) -> usize
     ensures { λ r. ⌜ r ≡ natAbs z ⌝ }
 {
@@ -66,8 +66,8 @@ fn first_below(word: &[i8]) -> usize
     n
 }
 
-// Check 15, on a word of signed letters.
-fn inverse(q: u64, word: &[i8]) -> Verdict
+// Check 15, on a word of signed letters: no letter needs an inverse that q lacks.
+fn invertible(q: u64, word: &[i8]) -> Verdict
     ensures { λ r. ⌜ r ≡ inverseVerdict q (now (word .entry)) ⌝ }
 {
     if inverses::has_inverse(q) {
@@ -86,7 +86,7 @@ pub fn check(m: usize, n: usize, q: u64, word: &[i8]) -> Verdict
     ensures { λ r. ⌜ r ≡ signedVerdict m n q (now (word .entry)) ⌝ }
 {
     let sized = then(checks::rank(m), checks::sized(m, n));
-    then(then(sized, letters(m, word)), inverse(q, word))
+    then(then(sized, letters(m, word)), invertible(q, word))
 }
 
 // The parameters of the inverse letters: q' and q' - 1, for the inverse q' of q. Where no letter of the word is below 0 or q has

@@ -1,12 +1,12 @@
--- Inverses modulo N, for N ≥ 1; words are the case N = 2^64.
+-- Inverses modulo N (document 02, Ticket 1); words are the case N = 2^64.
 --
 --   givesOne N q x    the test q x = 1 modulo N
 --   inverse N q       the inverse of q modulo N: the first x below N with q x = 1 modulo N, else N
 --   hasInverse N q    whether there is one
 --   inverseOf N q     whether there is one, and which, as the code answers
 --   IsInverse N q x   x is below N, and q x = 1 modulo N
---   Inverses N q      what is found is an inverse, there is no other, and where none is found there is none
---   WordInverses q    modulo 2^64 q has an inverse exactly where it is odd
+--   Inverses N q      for q < N: what is found is an inverse, there is no other, and where none is found there is none
+--   WordInverses q    for every q: modulo 2^64 it has an inverse exactly where it is odd
 use mathlib.Core.Path.{_≡_}
 use mathlib.Core.Bool.{Bool, true, false, cond}
 use Prim.Native.Nat.{ℕ, _%_, _<_}

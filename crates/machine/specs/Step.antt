@@ -1,11 +1,11 @@
--- What the commands of a sheet mean, one by one (document 01, "Run sheets").
+-- What the commands of a sheet mean, one by one (document 01, "Run sheets", and document 02, Ticket 1).
 --
 --   updated h u x        the words of the registers after the update u, in a sheet that begins with the header h
 --   obey h c x           the same after any command
 --   updateCost m u       the ring operations that an update counts at rank m
 --   cost m c             the same for any command, if it is obeyed
 --   costCall m c         the same, and 0 where the command is not in range (whether q has an inverse is not judged here)
---   stepReport a         number, place and count of an answer: document 01 has no number for a command that is not obeyed
+--   stepReport a         number, place and count of an answer: neither document has a number for a command that is not obeyed
 --   stepCall h c x       one command on lent registers: the answer with the count, and the registers; nothing is done where an operand is out of range,
 --                        where an inverse letter stands and q has no inverse, or where the registers are not 4 × 720 words
 use mathlib.Core.Bool.{cond, _&&_}

@@ -1,4 +1,4 @@
--- Document 01's table of refusals, with those of the later requests, for all calls and sheets (document 01, "Where each thing is checked").
+-- The table of refusals, for all calls and sheets (document 01, "Where each thing is checked", and document 02, Ticket 1).
 --
 --   refusalNumber, refusalPlace   the table's number and place of a refusal; the place is 0 where none is named
 --   v then w                      the first refusal of two verdicts

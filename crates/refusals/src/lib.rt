@@ -1,4 +1,4 @@
-// Document 01's table of refusals, with those of the later requests, for all calls and sheets: why something is refused, its
+// Document 01's table of refusals, and 15 of document 02, Ticket 1, for all calls and sheets: why something is refused, its
 // number and its place, and verdicts joined in the order of the checks.
 
 ghost use mathlib.Core.Path.{_≡_};

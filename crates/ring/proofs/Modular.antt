@@ -15,7 +15,7 @@ module _ (N : ℕ) where
   reduced : {a b : ℕ} → a ≡ b → a % N ≡ b % N
   reduced e = ap (λ x. x % N) e
 
-  mul-mod-left : (a b : ℕ) → a % N * b % N ≡ a * b % N
+  pub mul-mod-left : (a b : ℕ) → a % N * b % N ≡ a * b % N
   mul-mod-left a b = sym (reduced parts ∙ add-mul-mod-self-right (a % N * b) (a / N * b) N)
     where
       parts : a * b ≡ a % N * b + a / N * b * N

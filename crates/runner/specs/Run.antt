@@ -1,4 +1,4 @@
--- The run of a whole sheet (document 01, "Run sheets").
+-- The run of a whole sheet (document 01, "Run sheets", and document 02, Ticket 1).
 --
 --   State                 the words of the registers and the count
 --   start                 zero elements, and the count 0

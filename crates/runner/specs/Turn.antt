@@ -10,7 +10,7 @@
 --   moved h k c after     the cursor after the command, where `after` is the offset after it
 --   onward c k            how a run goes on after the command, with the cursor k after it
 --   turnOf h k found x    what a turn answers and leaves, where `found` stands at the cursor; nothing is done where that is not obeyed
---   turnedReport t        number, place and count of what a turn answers: document 01 has no number for a command that is not obeyed
+--   turnedReport t        number, place and count of what a turn answers: neither document has a number for a command that is not obeyed
 --   turnCall s h k x      what a turn of the sheet s answers and leaves
 --   goesOn t y k f        after a turn at the cursor k that answered t and left y: f from the next cursor on, if there is one
 --   Course                where turns come to: the cursor before the last turn that went on no further, what that one answered, and the registers

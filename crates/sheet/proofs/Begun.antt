@@ -15,7 +15,7 @@ use Rattle.sheet_format.specs.declared.Update.the-variants.{InverseLetter}
 use Rattle.sheet_format.specs.declared.Command.{Command}
 use Rattle.sheet_format.specs.declared.Command.the-variants.{End, Begin, Change, Show}
 use Rattle.sheet_format.specs.declared.Decoded.the-variants.{Found}
-use Rattle.sheet.specs.Check.{isEnd, inOrder, inRange, invertible}
+use Rattle.sheet.specs.Check.{isEnd, inOrder, inRange}
 use Rattle.sheet.specs.Bounds.{Begins, Ordered, Bounds}
 use Rattle.sheet.specs.Table.{Good, OutOfOrder, OutOfRange, Uninvertible}
 use Rattle.sheet.proofs.Tests.{fails, fails-not}

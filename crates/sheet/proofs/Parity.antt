@@ -1,39 +1,16 @@
--- The check's test for an inverse decides the table's: an inverse letter asks for an odd q. Rests on inverses' Odd.
+-- The check's test for an inverse decides the table's: an inverse letter asks for an odd q. Rests on inverses' Parity.
 --
---   parity q    modulo 2^64 a number has an inverse exactly where it is odd
 --   Lacks q c   c is an inverse letter, and q is even
-use mathlib.Core.Path.{_≡_, refl, sym, ap, _∙_, fun-ext}
+use mathlib.Core.Path.{_≡_, refl, sym, ap, _∙_}
 use mathlib.Core.Bool.{true, false}
-use Prim.Native.Nat.{ℕ, zero, suc, _*_, _%_, _^_}
-use native.Mathlib.Nat.{mod-lt, mod-add-div'}
+use Prim.Native.Nat.{ℕ, _%_}
 use native.Mathlib.Omega.{arith}
-use Rattle.ring.specs.Modular.{modular, wordModulus}
-use Rattle.lists.specs.Lists.{bit, same, less, first}
-use Rattle.inverses.specs.Inverses.{givesOne, inverse, hasInverse, WordInverses}
-use Rattle.inverses.proofs.Odd.{word-inverses}
+use Rattle.lists.specs.Lists.{bit}
+use Rattle.inverses.proofs.Parity.{word-inverses, has-odd, none-even}
 use Rattle.sheet_format.specs.declared.Update.the-variants.{Unit, Set, Letter, InverseLetter, Product, Sum, Scale}
 use Rattle.sheet_format.specs.declared.Command.{Command}
 use Rattle.sheet_format.specs.declared.Command.the-variants.{End, Begin, Change, Show}
 use Rattle.sheet.specs.Check.{invertible}
-
--- ---- an inverse modulo 2^64, for numbers of any size
-
-product-reduced : (q x : ℕ) → q * x % 2 ^ 64 ≡ q % 2 ^ 64 * x % 2 ^ 64
-product-reduced q x = omega (arith, ap (λ z. z * x) (mod-add-div' q (2 ^ 64)))
-
-gives-reduced : (q x : ℕ) → givesOne wordModulus q x ≡ givesOne wordModulus (q % 2 ^ 64) x
-unfolding givesOne modular
-gives-reduced q x = ap (λ y. same y (modular wordModulus .one)) (product-reduced q x)
-
-has-reduced : (q : ℕ) → hasInverse wordModulus q ≡ hasInverse wordModulus (q % 2 ^ 64)
-unfolding hasInverse inverse
-has-reduced q = ap (λ p. less (first p 0 wordModulus) wordModulus) (fun-ext (gives-reduced q))
-
-parity : (q : ℕ) → WordInverses q
-parity q = let w = word-inverses (q % 2 ^ 64) (mod-lt q (omega arith)) in
-    record { odd = λ h. has-reduced q ∙ w .odd (omega arith); even = λ h. has-reduced q ∙ w .even (omega arith) }
-
--- ---- the test
 
 pub invertible-odd : (q : ℕ) (c : Command) → ((r i : ℕ) → c ≡ Change (InverseLetter r i) → q % 2 ≡ 1) → invertible q c ≡ true
 unfolding invertible
@@ -42,7 +19,7 @@ invertible-odd q (Begin k) h = refl
 invertible-odd q (Change (Unit r)) h = refl
 invertible-odd q (Change (Set r i v)) h = refl
 invertible-odd q (Change (Letter r i)) h = refl
-invertible-odd q (Change (InverseLetter r i)) h = parity q .odd (h r i refl)
+invertible-odd q (Change (InverseLetter r i)) h = word-inverses q .odd (h r i refl)
 invertible-odd q (Change (Product d a b)) h = refl
 invertible-odd q (Change (Sum d a b)) h = refl
 invertible-odd q (Change (Scale r v)) h = refl
@@ -50,15 +27,11 @@ invertible-odd q (Show w) h = refl
 
 pub lacks-even : (q r i : ℕ) → q % 2 ≡ 0 → invertible q (Change (InverseLetter r i)) ≡ false
 unfolding invertible
-lacks-even q r i h = parity q .even h
+lacks-even q r i h = word-inverses q .even h
 
 pub odd-where : (q : ℕ) (c : Command) → invertible q c ≡ true → (r i : ℕ) → c ≡ Change (InverseLetter r i) → q % 2 ≡ 1
-odd-where q c e r i is = go (q % 2) refl
-  where
-    go : (b : ℕ) → q % 2 ≡ b → q % 2 ≡ 1
-    go zero z = absurd (omega (arith, ap bit (sym e ∙ ap (invertible q) is ∙ lacks-even q r i z)))
-    go (suc zero) z = z
-    go (suc (suc b)) z = absurd (omega arith)
+unfolding invertible
+odd-where q c e r i is = has-odd q (ap (invertible q) (sym is) ∙ e)
 
 -- a command that fails it
 pub data Lacks (q : ℕ) : Command → Type 0 where
@@ -74,12 +47,7 @@ lacks q (Begin k) e = passed e
 lacks q (Change (Unit r)) e = passed e
 lacks q (Change (Set r i v)) e = passed e
 lacks q (Change (Letter r i)) e = passed e
-lacks q (Change (InverseLetter r i)) e = lack r i (go (q % 2) refl)
-  where
-    go : (b : ℕ) → q % 2 ≡ b → q % 2 ≡ 0
-    go zero z = z
-    go (suc zero) z = passed (sym (parity q .odd z) ∙ e)
-    go (suc (suc b)) z = absurd (omega arith)
+lacks q (Change (InverseLetter r i)) e = lack r i (none-even q e)
 lacks q (Change (Product d a b)) e = passed e
 lacks q (Change (Sum d a b)) e = passed e
 lacks q (Change (Scale r v)) e = passed e

@@ -1,4 +1,5 @@
--- A sheet is refused exactly where document 01's table says so, with a place of at most 4,096. Rests on Cases, Parity, Begun and Reached.
+-- A sheet is refused exactly where the table of specs/Table says so, which is that of document 01 with 15 of document 02, Ticket 1; its place is at most
+-- 4,096. Rests on Cases, Parity, Begun and Reached.
 use mathlib.Core.Path.{_≡_, refl, subst, _∙_}
 use mathlib.Core.Logic.{inl, inr, ⊎-elim}
 use mathlib.Core.List.{List, []}

@@ -1,4 +1,4 @@
--- The place of a command in a sheet and the bounds of its operands, in document 01's words ("Run sheets").
+-- The place of a command in a sheet and the bounds of its operands, in the words of document 01 ("Run sheets") and of document 02, Ticket 1.
 --
 --   Begins c                          c is a begin command
 --   Ordered at c                      the command c stands at offset 0 exactly where it is begin

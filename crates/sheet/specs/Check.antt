@@ -1,4 +1,4 @@
--- The check of a whole sheet, with the refusals 9 to 15 (document 01, "Where each thing is checked").
+-- The check of a whole sheet, with the refusals 9 to 15 (document 01, "Where each thing is checked", and document 02, Ticket 1).
 --
 --   isEnd c, isBegin c            the tests for the end command and for a begin command
 --   inOrder at c                  the first command is begin, and no later one

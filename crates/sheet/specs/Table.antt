@@ -1,4 +1,5 @@
--- When a sheet is refused, as document 01's table says it, without the order in which a check goes and without its tests.
+-- When a sheet is refused, as document 01's table says it, and 15 as document 02, Ticket 1, says it, without the order in which a check goes and
+-- without its tests.
 --
 --   Good s at c after         the command c stands at an offset of the sheet s, in order and within its bounds, and the offset after it; q is odd
 --                             if c multiplies by an inverse generator
@@ -9,7 +10,7 @@
 --   OutOfRange s at           a command stands at an offset, in order and with an operand out of range
 --   Uninvertible s at         an inverse letter stands at an offset, in order and within its bounds, and q is even
 --   Ended s after             a good end command is reached, and the offset after it
---   Says s why                the table's row for a refusal
+--   Says s why                what the table says of a refusal
 --   Passes s                  an end command is reached, and nothing stands after it
 --   Exactly s                 a sheet is refused exactly where the table says so, and accepted exactly where it passes; a refusal counts 0, and its
 --                             place is at most 4,096

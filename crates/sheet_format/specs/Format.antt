@@ -1,4 +1,4 @@
--- The commands of a run sheet (document 01, "Run sheets").
+-- The commands of a run sheet (document 01, "Run sheets", and document 02, Ticket 1).
 --
 --   byte x i           byte i of x, 0 past its end
 --   number x i n       the number of the n bytes of x from i on, the lowest byte first

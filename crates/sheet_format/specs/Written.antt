@@ -1,4 +1,4 @@
--- The commands as document 01 writes them ("Run sheets"), apart from how they are read, and the claim that they are read so.
+-- The commands as document 01 ("Run sheets") and document 02, Ticket 1, write them, apart from how they are read, and the claim that they are read so.
 --
 --   little n v   v in n bytes, the lowest first
 --   written c    the bytes of a command: its code, then its operands

@@ -18,7 +18,7 @@ use Rattle.signed_words.proofs.Lengths.{inverseLetter-length, signedLet
 use Rattle.signed_words.proofs.SignedMaps.{signed-maps}
 
 module _ (A : Type 0) (o : Ops A) (q r q' r' : A) (m : ℕ) where
-  pub signedAct-length : (x : List ℤ) (h : List A) → length h ≡ factorial (suc m) → length (signedAct A o q r q' r' m x h) ≡ factorial (suc m)
+  signedAct-length : (x : List ℤ) (h : List A) → length h ≡ factorial (suc m) → length (signedAct A o q r q' r' m x h) ≡ factorial (suc m)
   unfolding signedAct
   signedAct-length [] h e = e
   signedAct-length (z ∷ x) h e = signedAct-length x _ (signedLetter-length A o q r q' r' m z h e)

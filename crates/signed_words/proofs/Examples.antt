@@ -54,10 +54,10 @@ mirrored : mirror (pos 1 ∷ negsuc 1 ∷ pos 3 ∷ []) ≡ negsuc 2 ∷ pos 2 �
 unfolding mirror
 mirrored = refl
 
-there-and-back-and-on : signedAct ℕ words 3 2 q' r' 1 (pos 1 ∷ negsuc 0 ∷ negsuc 0 ∷ []) (3 ∷ 5 ∷ []) ≡ 3 ∷ 1 ∷ []
+letter-and-two-inverse-letters : signedAct ℕ words 3 2 q' r' 1 (pos 1 ∷ negsuc 0 ∷ negsuc 0 ∷ []) (3 ∷ 5 ∷ []) ≡ 3 ∷ 1 ∷ []
 unfolding modular same less range tally product identity swap generator ofWord below len above entry cycle factorial series blocks place join perms
     coefficient element plus scale letter inverseLetter signedLetter signedAct
-there-and-back-and-on = refl
+letter-and-two-inverse-letters = refl
 
 -- rank 2: T_1 and then the inverse of T_2 is q' T_(s_1 s_2) + r' T_1
 left-to-right : signedAct ℕ words 3 2 q' r' 2 (pos 1 ∷ negsuc 1 ∷ []) (1 ∷ 0 ∷ 0 ∷ 0 ∷ 0 ∷ 0 ∷ []) ≡ 0 ∷ r' ∷ 0 ∷ q' ∷ 0 ∷ 0 ∷ []

@@ -18,7 +18,7 @@ use Rattle.algebra.proofs.Words.{Rw}
 use Rattle.algebra.proofs.Elements.{Has, has-own, has-scale, has-plus, has-onPairs, has-act, equal-elements}
 use Rattle.signed_words.specs.InverseLetter.{Inverted, inverseLetter, backward}
 use Rattle.signed_words.proofs.Undone.{onPairs-undo}
-use Rattle.signed_words.proofs.Inverted.{there-back, at-longer, undoes, redoes}
+use Rattle.signed_words.proofs.Inverted.{cancels, at-longer, undoes, redoes}
 use Rattle.signed_words.proofs.Lengths.{letter-length}
 
 module _ (A : Type 0) (o : Ops A) (𝓡 : Ring A o) {q r q' r' : A} (v : Inverted A o q r q' r') {m i : ℕ} (l : Letter m i) where
@@ -40,7 +40,7 @@ module _ (A : Type 0) (o : Ops A) (𝓡 : Ring A o) {q r q' r' : A} (v : Inverte
       (λ w p. go (ascR i w) (coefficient A o h (rgt i w)) (coefficient A o h w))
     where
       go : (b : Bool) (x y : A) → o .add (o .mul q' (step A o q r b x y)) (o .mul r' y) ≡ pick (backward A o q' r') b x y
-      go true x y = ap (λ z. o .add z (o .mul r' y)) (there-back A o 𝓡 v x)
+      go true x y = ap (λ z. o .add z (o .mul r' y)) (cancels A o 𝓡 v x)
       go false x y = at-longer A o 𝓡 v x y
 
   pub undo : (h : List A) → length h ≡ factorial (suc m) → off (on h) ≡ h

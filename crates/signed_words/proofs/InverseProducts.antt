@@ -2,11 +2,8 @@
 -- algebra's Laws, Onto, Lists and Coefficients, and perms' Reduced.
 use mathlib.Core.Path.{_≡_, sym, ap, ap₂, _∙_}
 use mathlib.Core.List.{List, [], _∷_}
-use Prim.Native.Nat.{ℕ, suc}
-use lib.ListN.{length}
+use Prim.Native.Nat.{ℕ}
 use Rattle.ring.specs.Ring.{Ops, Ring}
-use Rattle.lists.specs.Lists.{All}
-use Rattle.lists.specs.Numbers.{factorial}
 use Rattle.perms.specs.Permutation.{Letter, identity, generator}
 use Rattle.perms.proofs.Reduced.{short-letter}
 use Rattle.algebra.specs.Element.{Element, plus, scale, unit, T}
@@ -15,16 +12,9 @@ use Rattle.algebra.specs.Laws.{Laws, defined}
 use Rattle.algebra.proofs.Lists.{plus-length, scale-length}
 use Rattle.algebra.proofs.Coefficients.{basis-length}
 use Rattle.algebra.proofs.Laws.{laws}
-use Rattle.algebra.proofs.Onto.{any}
+use Rattle.algebra.proofs.Onto.{any, sized}
 use Rattle.signed_words.specs.InverseLetter.{Inverted, inverseLetter, inverseT}
 use Rattle.signed_words.proofs.InverseLetters.{undo, redo}
-
-everything : {A : Type 0} (h : List A) → All any h
-everything [] = tt
-everything (x ∷ h) = (tt, everything h)
-
-sized : {A : Type 0} {m : ℕ} {h : List A} → length h ≡ factorial (suc m) → Element any m h
-sized {h = h} e = record { size = e; each = everything h }
 
 module _ (A : Type 0) (o : Ops A) (𝓡 : Ring A o) {q r q' r' : A} (v : Inverted A o q r q' r') {m i : ℕ} (l : Letter m i) where
   L : Laws A o q r any m (defined A o q r m)

@@ -22,12 +22,12 @@ module _ (A : Type 0) (o : Ops A) (𝓡 : Ring A o) where
   abbrev 𝟏 : A
   𝟏 = o .one
 
-  pub turned : {q r q' r' : A} → Inverted A o q r q' r' → Inverted A o q' r' q r
+  turned : {q r q' r' : A} → Inverted A o q r q' r' → Inverted A o q' r' q r
   turned {q} {q' = q'} v = record { product = 𝓡 .mul-comm q' q ∙ v .product; less = v .less'; less' = v .less }
 
   module _ {q r q' r' : A} (v : Inverted A o q r q' r') where
-    pub there-back : (x : A) → q' * (q * x) ≡ x
-    there-back x = sym (𝓡 .mul-assoc q' q x) ∙ ap (λ z. z * x) (turned v .product) ∙ 𝓡 .one-mul x
+    pub cancels : (x : A) → q' * (q * x) ≡ x
+    cancels x = sym (𝓡 .mul-assoc q' q x) ∙ ap (λ z. z * x) (turned v .product) ∙ 𝓡 .one-mul x
 
     -- 1 + (r + r' q) = q + r' q = (r' + 1) q = 1
     none-left : r + r' * q ≡ 𝟎
@@ -46,11 +46,11 @@ module _ (A : Type 0) (o : Ops A) (𝓡 : Ring A o) where
   module _ {q r q' r' : A} (v : Inverted A o q r q' r') where
     -- T_i and then its inverse
     pub undoes : Undoes (backward A o q' r') (forward A o q r)
-    undoes = record { shorter = leaves v; longer = λ s t. there-back v t }
+    undoes = record { shorter = leaves v; longer = λ s t. cancels v t }
 
     -- the inverse of T_i and then T_i
     pub redoes : Undoes (forward A o q r) (backward A o q' r')
-    redoes = record { shorter = λ s t. there-back (turned v) s; longer = λ s t. leaves (turned v) t s }
+    redoes = record { shorter = λ s t. cancels (turned v) s; longer = λ s t. leaves (turned v) t s }
 
     -- q' (x + r y) + r' y = q' x
     pub at-longer : (x y : A) → q' * (x + r * y) + r' * y ≡ q' * x

@@ -32,7 +32,7 @@ module _ (m : ℕ) {q q' : ℕ} (hq : q < 2 ^ 64) (hq' : q' < 2 ^ 64) where
   abbrev r' : ℕ
   r' = minusOne ℕ words q'
 
-  pub word-inverted : words .mul q q' ≡ words .one → Inverted ℕ words q r q' r'
+  word-inverted : words .mul q q' ≡ words .one → Inverted ℕ words q r q' r'
   word-inverted e = record { product = e; less = one-less q hq; less' = one-less q' hq' }
 
   pub word-signed : words .mul q q' ≡ words .one → Signed ℕ words q r q' r' (λ n. n < 2 ^ 64) m

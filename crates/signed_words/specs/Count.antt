@@ -1,4 +1,4 @@
--- How many ring operations the inverse letter takes where q' and r' are there already: value and count together, block by block.
+-- How many ring operations the inverse letter takes where q' and r' are there already (document 02, Ticket 1): value and count together, block by block.
 --
 --   back q' r' x y            what becomes of two blocks x and y that pair: y + r' x and q' x, in a row
 --   nestedBack q' r' m i h    the inverse letter on h, of rank m

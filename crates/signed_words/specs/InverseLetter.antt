@@ -1,4 +1,4 @@
--- The inverse of a generator, for any operations o on A, where r stands for q - 1, q' for the inverse of q and r' for q' - 1.
+-- The inverse of a generator (document 02, Ticket 1), for any operations o on A, where r stands for q - 1, q' for the inverse of q and r' for q' - 1.
 --
 --   Inverted q r q' r'    q q' = 1, r + 1 = q and r' + 1 = q'
 --   inverseLetter m i h   q' h T_i + r' h, for h of rank m

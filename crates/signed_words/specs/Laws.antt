@@ -1,4 +1,4 @@
--- What is claimed of inverse letters and of signed words, for elements of rank m whose coefficients are ok.
+-- What is claimed of inverse letters and of signed words (document 02, Ticket 1), for elements of rank m whose coefficients are ok.
 --
 --   Signed          letters and their inverses undo each other, and words and their mirrors do. There E h says that h is an element of rank m, t i is
 --                   T_i and t' i is q' T_i + r' 1

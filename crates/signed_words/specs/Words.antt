@@ -1,4 +1,4 @@
--- Words of signed letters, as integers: i stands for T_i and -i for its inverse.
+-- Words of signed letters, as integers (document 02, Ticket 1): i stands for T_i and -i for its inverse.
 --
 --   SignedLetter m z      z is from -m to m, and not 0
 --   SignedWord m x        each letter of x is

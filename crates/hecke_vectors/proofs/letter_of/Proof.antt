@@ -21,4 +21,7 @@ sub-result : tie.Need-sub-result
 sub-result c = fits (255 - c .before .args .byte) (omega arith)
 
 pub letter-of-spec : {M : Type 1} → statement M
-letter-of-spec = tie.close (tie.spec (λ c. record { sfits = omega arith }) (λ c. search needs) (λ c. omega arith) (λ c. record { sfits = omega arith }) sub-result (λ c. search needs))
+letter-of-spec =
+    tie.close
+    (tie.spec (λ c. record { sfits = omega arith }) (λ c. search needs) (λ c. omega arith) (λ c. record { sfits = omega arith }) sub-result
+    (λ c. search needs))

@@ -38,7 +38,8 @@ returns : tie.Need-returns Inv-loop μ-loop
 unfolding firstBadSigned
 returns c =
     let m = head (c .before) .before .args .m in
-    let bad = ⊎-elim {C = (let x = c .before .size-of .result in same x 0 || less m x) ≡ true} (λ t. zero-bad m _ (t .taken)) (λ t. large-bad m _ (t .0 .left) (t .1 .taken)) (c .if1 .came) in
+    let x = c .before .size-of .result in
+    let bad = ⊎-elim {C = (same x 0 || less m x) ≡ true} (λ t. zero-bad m _ (t .taken)) (λ t. large-bad m _ (t .0 .left) (t .1 .taken)) (c .if1 .came) in
     first-here _ (omega arith) (head (c .before) .loop .inv) (sym (ap (λ x. same x 0 || less m x) (size (c .before))) ∙ bad)
 
 loop-again : tie.Need-loop-again Inv-loop μ-loop

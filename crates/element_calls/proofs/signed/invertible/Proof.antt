@@ -2,8 +2,8 @@
 use mathlib.Core.Path.{sym, _∙_}
 use borrow.Author.Needs.{needs}
 use Rattle.element_calls.proofs.InverseVerdicts.{has-one, none-below, some-below}
-use Rattle.element_calls.proofs.signed.inverse.Statement.{statement}
-use Rattle.element_calls.proofs.signed.inverse.Tie as tie
+use Rattle.element_calls.proofs.signed.invertible.Statement.{statement}
+use Rattle.element_calls.proofs.signed.invertible.Tie as tie
 
 returns : tie.Need-returns
 returns c = has-one _ _ (sym (c .before .has-inverse .ensures) ∙ c .if1 .taken)
@@ -15,5 +15,5 @@ returns-2 c = let at = c .before in
 returns-3 : tie.Need-returns-3
 returns-3 c = none-below _ _ (c .before .first-below .ensures) (c .if2 .left)
 
-pub inverse-spec : {M : Type 1} → statement M
-inverse-spec = tie.close (tie.spec (λ c κs. search needs) returns (λ c κs. search needs) returns-2 returns-3)
+pub invertible-spec : {M : Type 1} → statement M
+invertible-spec = tie.close (tie.spec (λ c κs. search needs) returns (λ c κs. search needs) returns-2 returns-3)
