@@ -1,5 +1,5 @@
 /* The library's own method in C, tuned by hand: Proposition 3.2 block by block, with the library's cases of their own for letters
- * and for ranks 1 and 2, and the product's recursion over the right factor. The build names the two calls. Nothing is checked:
+ * and for ranks 1 to 3, and the product's recursion over the right factor. The build names the two calls. Nothing is checked:
  * an element of rank m has (m + 1)! words, and the scratch of a product (m + 6) (m + 1)!. */
 
 #include <stddef.h>
@@ -57,13 +57,23 @@ static inline void letter_of_rank_two(word *x, size_t j, algebra a) {
     }
 }
 
+/* x T_j in the place of x, of rank 3. */
+static void letter_of_rank_three(word *x, size_t j, algebra a) {
+    word *first = x + (3 - j) * 6, *second = first + 6, *end = x + 24;
+    for (; x < first; x += 6)
+        letter_of_rank_two(x, j, a);
+    exchange(first, second, 6, a);
+    for (x = second + 6; x < end; x += 6)
+        letter_of_rank_two(x, j - 1, a);
+}
+
 static void letter(word *x, size_t m, size_t j, algebra a);
 
 /* T_j acts on each of the n blocks of x, of rank m and b words. */
 static inline void each_letter(word *x, size_t m, size_t b, size_t n, size_t j, algebra a) {
-    if (m == 2)
+    if (m == 3)
         for (; n > 0; n--, x += b)
-            letter_of_rank_two(x, j, a);
+            letter_of_rank_three(x, j, a);
     else
         for (; n > 0; n--, x += b)
             letter(x, m, j, a);
@@ -71,7 +81,9 @@ static inline void each_letter(word *x, size_t m, size_t b, size_t n, size_t j, 
 
 /* x T_j in the place of x, of rank m. */
 static void letter(word *x, size_t m, size_t j, algebra a) {
-    if (m == 2) {
+    if (m == 3) {
+        letter_of_rank_three(x, j, a);
+    } else if (m == 2) {
         letter_of_rank_two(x, j, a);
     } else if (m == 1) {
         exchange(x, x + 1, 1, a);
