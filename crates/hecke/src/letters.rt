@@ -179,11 +179,12 @@ fn signed_letter(x: &mut [u64], z: i8, m: usize, p: Parameters, back: Parameters
     requires { ⌜ SignedLetterPre m z (now x) ⌝ }
     ensures { λ _. ⌜ now (x .exit) ≡ signedLettered p back m z (now (x .entry)) ⌝ }
 {
-    let j = signed::size_of(z);
     if z < 0 {
+        let j = signed::size_of(z);
         letter(x, m, j, Way::Backward, back);
         return;
     }
+    let j = signed::size_of(z);
     letter(x, m, j, Way::Forward, p);
 }
 
