@@ -12,7 +12,6 @@ use Rattle.algebra.specs.Element.{plus, scale}
 use Rattle.algebra.specs.Pairs.{zipped, exchanged}
 use Rattle.algebra.specs.Nested.{free, _⧺_, row, _⊞_, _⊠_, sumRow, part, level, nestedAct}
 use Rattle.element_calls.specs.declared.Parameters.{Parameters}
-use Rattle.element_calls.specs.Coefficients.{ring}
 use Rattle.block_loops.specs.declared.Way.the-variants.{Forward}
 use Rattle.word_lists.specs.Into.{loadInto}
 use Rattle.block_loops.specs.InPlace.{exchanging, exchangeIn, addTo}
