@@ -1,5 +1,5 @@
 -- The element calls, whole: for all inputs, what a call answers and what its lent slices then hold (document 01, "Elements and their product" and
--- "Where each thing is checked", and document 02, Ticket 1).
+-- "Where each thing is checked", and document 02, Tickets 1 and 2).
 --
 --   rankVerdict m                 1: on the rank
 --   sizeVerdict m n               2: on an element's slice of n words
@@ -13,6 +13,8 @@
 --   signedVerdict m n q x         the checks of the action of such a word on a slice of n words
 --   Buffers                       the result slice and the scratch that are lent to a product
 --   write v old new n             what is lent becomes new and counts n, if nothing is refused
+--   valued v x                    the answer of a call that gives the word x, if nothing is refused; else it gives 0
+--   valuedReport a                the report of such an answer, which counts 0
 --   xCall                         the call x
 --
 -- A rank above 6 has the size 0: checks 2 and 3 are judged after check 1.
@@ -25,15 +27,18 @@ use Rattle.ring.specs.Modular.{wordModulus, words}
 use Rattle.lists.specs.Lists.{same, less, first}
 use Rattle.lists.specs.Numbers.{factorial}
 use Rattle.inverses.specs.Inverses.{hasInverse}
-use Rattle.refusals.specs.Refusals.{_then_, unless, accepted, refused, Outcome, ended}
+use Rattle.refusals.specs.Refusals.{_then_, unless, accepted, refused, Report, verdictReport, Outcome, ended}
 use Rattle.refusals.specs.declared.Refusal.the-variants.{Rank, Size, Scratch, Word, Letter, NoInverse}
 use Rattle.refusals.specs.declared.Verdict.{Verdict}
+use Rattle.refusals.specs.declared.Verdict.the-variants.{Accepted, Refused}
 use Rattle.refusals.specs.declared.Answer.{Answer}
 use Rattle.algebra.specs.Element.{plus, scale}
 use Rattle.algebra.specs.Product.{act, times}
 use Rattle.algebra.specs.Nested.{operations, nested}
+use Rattle.algebra.specs.Pairing.{pairing}
 use Rattle.signed_words.specs.Words.{isBelow, signedAct}
 use Rattle.ranks.specs.Ranks.{size, needed, scratchSize}
+use Rattle.element_calls.specs.declared.Valued.{Valued}
 use Rattle.element_calls.specs.Coefficients.{ring, parametersOf, inverseParameters}
 
 -- ---- the checks
@@ -77,6 +82,13 @@ pub record Buffers : Type 0 where
 abbrev pub write : {A : Type 0} → Verdict → A → A → ℕ → Outcome Answer A
 write v old new n = ended v refused (accepted n) old new
 
+abbrev pub valued : Verdict → ℕ → Valued
+valued Accepted x = record { verdict = Accepted; value = x }
+valued (Refused why) x = record { verdict = Refused why; value = 0 }
+
+abbrev pub valuedReport : Valued → Report
+valuedReport a = verdictReport (a .verdict)
+
 unfoldable pub sumCall : (m : ℕ) (h g result : List ℕ) → Outcome Answer (List ℕ)
 sumCall m h g result =
     write (rankVerdict m then sizeVerdict m (length h) then sizeVerdict m (length g) then sizeVerdict m (length result))
@@ -107,3 +119,8 @@ productCall m q h g result scratch =
     (record { result = result; scratch = scratch })
     (record { result = times ℕ (ring p) (p .q) (p .r) m m h g; scratch = replicate (needed m) 0 ++ drop (needed m) scratch })
     (operations (nested ℕ (ring p) (p .q) (p .r) m m h g .count))
+
+unfoldable pub pairingCall : (m q : ℕ) (h g : List ℕ) → Valued
+pairingCall m q h g =
+    let p = parametersOf q in
+    valued (rankVerdict m then sizeVerdict m (length h) then sizeVerdict m (length g)) (pairing ℕ (ring p) (p .q) m h g)

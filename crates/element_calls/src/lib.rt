@@ -1,11 +1,19 @@
-// What the five element calls check and answer: the checks, and the parameters of the algebra. What a call answers and writes is
-// defined in specs/Calls; the work itself is in `linear` and `hecke`.
+// What the six element calls check and answer: the checks, the answers, and the parameters of the algebra. What a call answers and
+// writes is defined in specs/Calls; the work itself is in `linear`, `hecke` and `pairings`.
 
 ghost use mathlib.Core.Path.{_≡_};
 ghost use Rattle.element_calls.specs.Coefficients.{parametersOf};
 
+use refusals::Verdict;
+
 pub mod checks;
 pub mod signed;
+
+// The answer of a call that gives one word and counts no ring operation: the word is 0 where the call is refused.
+pub struct Valued {
+    pub verdict: Verdict,
+    pub value: u64,
+}
 
 // The parameters of the algebra: q, and r = q - 1.
 pub struct Parameters {
