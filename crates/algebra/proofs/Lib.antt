@@ -59,5 +59,3 @@ pub mod Carry
 pub mod CarryMethod
 pub mod Closed
 pub mod Modular
--- the pairing
-pub mod Pairing
