@@ -28,6 +28,7 @@ pub mod Tower
 pub mod Standard
 pub mod ImagesOf
 pub mod Lengths
+pub mod InverseWords
 pub mod ShortestWord
 pub mod HigherRank
 pub mod Descent
