@@ -31,6 +31,7 @@ pub mod WordSlices
 pub mod Laws
 pub mod Hecke
 pub mod Formula
+pub mod PairingAtUnit
 -- the nested method
 pub mod PairBlocks
 pub mod CycleBlocks

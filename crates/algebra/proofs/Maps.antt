@@ -107,4 +107,4 @@ module _ {A B : Type 0} {o : Ops A} {p : Ops B} {f : A → B} (H : Hom A B o p f
 
   pub map-pairing : (q : A) (m : ℕ) (a b : List A) → f (pairing A o q m a b) ≡ pairing B p (f q) m (map f a) (map f b)
   unfolding pairing
-  map-pairing q m a b = hom-sum A B o p f H (perms m) _ ∙ ap (sum B p (perms m)) (fun-ext (λ w. simp (H .mul, map-power, map-coefficient)))
+  map-pairing q m a b = hom-sum A B o p f H _ _ ∙ ap (sum B p _) (fun-ext (λ w. simp (H .mul, map-power, map-coefficient)))

@@ -1,5 +1,5 @@
 -- The claims hold for the integers modulo N ≥ 1, and so for words, at N = 2^64, with r = q - 1. The coefficients that are meant are the numbers below N.
--- Rests on Laws, Formula, Method, Onto, Carry, CarryMethod, Closed and ring's Modular.
+-- Rests on Laws, Formula, PairingAtUnit, Method, Onto, Carry, CarryMethod, Closed and ring's Modular.
 use mathlib.Core.Path.{_≡_, refl}
 use Prim.Native.Nat.{ℕ, _^_, _<_}
 use native.Mathlib.Nat.{mod-lt}
@@ -8,12 +8,14 @@ use Rattle.ring.specs.Modular.{modular, words, Residue, number, residues}
 use Rattle.ring.proofs.Modular.{residues-ring, number-hom, words-pos}
 use Rattle.algebra.specs.Product.{minusOne}
 use Rattle.algebra.specs.Laws.{Formula, defined, Closed, Laws, Hecke}
+use Rattle.algebra.specs.PairingLaws.{PairingLaws}
 use Rattle.algebra.specs.Method.{Method}
 use Rattle.algebra.proofs.Laws.{laws}
 use Rattle.algebra.proofs.Formula.{formula}
+use Rattle.algebra.proofs.PairingAtUnit.{pairing-laws}
 use Rattle.algebra.proofs.Method.{method}
 use Rattle.algebra.proofs.Onto.{any, Onto}
-use Rattle.algebra.proofs.Carry.{carry}
+use Rattle.algebra.proofs.Carry.{carry, carry-pairing}
 use Rattle.algebra.proofs.CarryMethod.{carry-formula, carry-method}
 use Rattle.algebra.proofs.Closed.{closed}
 
@@ -29,6 +31,10 @@ module _ (N : ℕ) (pos : 0 < N) (m q r : ℕ) (hq : q < N) (hr : r < N) where
   pub modular-formula : Formula ℕ (modular N) q r (λ n. n < N) m
   modular-formula = carry-formula (number-hom N pos) (q, hq) (r, hr) (numbers N) m
       (formula (Residue N) (residues N pos) (q, hq) (r, hr) (residues-ring N pos) any m)
+
+  pub modular-pairing-laws : PairingLaws ℕ (modular N) q r (λ n. n < N) m
+  modular-pairing-laws = carry-pairing (number-hom N pos) (q, hq) (r, hr) (numbers N) m
+      (pairing-laws (Residue N) (residues N pos) (q, hq) (r, hr) (residues-ring N pos) any m)
 
   pub modular-method : Method ℕ (modular N) q r (λ n. n < N) m
   modular-method = carry-method (number-hom N pos) (q, hq) (r, hr) (numbers N) m
@@ -56,6 +62,9 @@ module _ (m q : ℕ) (hq : q < 2 ^ 64) where
 
   pub word-formula : Formula ℕ words q (minusOne ℕ words q) (λ n. n < 2 ^ 64) m
   word-formula = modular-formula (2 ^ 64) words-pos m q (minusOne ℕ words q) hq (below q)
+
+  pub word-pairing-laws : PairingLaws ℕ words q (minusOne ℕ words q) (λ n. n < 2 ^ 64) m
+  word-pairing-laws = modular-pairing-laws (2 ^ 64) words-pos m q (minusOne ℕ words q) hq (below q)
 
   pub word-method : Method ℕ words q (minusOne ℕ words q) (λ n. n < 2 ^ 64) m
   word-method = modular-method (2 ^ 64) words-pos m q (minusOne ℕ words q) hq (below q)

@@ -1,4 +1,4 @@
--- The unit is 1 followed by zeros. Rests on Place and Coefficients, and perms' Extend.
+-- The unit is 1 followed by zeros, and the coefficient of the unit in an element is the first one. Rests on Place and Coefficients, and perms' Extend.
 use mathlib.Core.Path.{_≡_, refl, sym, ap, _∙_}
 use mathlib.Core.List.{List}
 use Prim.Native.Nat.{ℕ, zero, suc, _<_}
@@ -14,7 +14,7 @@ use Rattle.perms.specs.Permutation.{identity}
 use Rattle.perms.proofs.Identity.{perm-identity}
 use Rattle.perms.proofs.Extend.{identity-suc}
 use Rattle.algebra.specs.Place.{place}
-use Rattle.algebra.specs.Element.{unit}
+use Rattle.algebra.specs.Element.{coefficient, unit}
 use Rattle.algebra.proofs.Enumeration.{join-extend}
 use Rattle.algebra.proofs.Place.{place-join, place-below}
 use Rattle.algebra.proofs.Coefficients.{basis-length, basis-at}
@@ -32,6 +32,10 @@ pub positive : (m : ℕ) → 0 < factorial (suc m)
 positive m = omega (arith, place-below m (identity m) (perm-identity m))
 
 module _ (A : Type 0) (o : Ops A) (m : ℕ) where
+  pub coefficient-unit : (h : List A) → coefficient A o h (identity m) ≡ getD h 0 (o .zero)
+  unfolding coefficient
+  coefficient-unit h = ap (λ i. getD h i (o .zero)) (place-identity m)
+
   pub unit-zeros : unit A o m ≡ set (replicate (factorial (suc m)) (o .zero)) 0 (o .one)
   unfolding unit
   unit-zeros = ext-getD (o .zero) (unit A o m) (set zs 0 (o .one)) (size ∙ sym (length-set zs 0 (o .one) ∙ zeros-size)) (λ i l. at i (omega (arith, size)))

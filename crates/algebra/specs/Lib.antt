@@ -6,5 +6,6 @@ pub mod Nested
 pub mod Cost
 pub mod Pairing
 pub mod Laws
+pub mod PairingLaws
 pub mod Method
 pub mod Maps

@@ -1,4 +1,4 @@
--- A call that is taken was given a rank, sizes and a word as document 01 and document 02, Ticket 1, want them: the record `Accepts`. Rests on Verdicts,
+-- A call that is taken was given a rank, sizes and a word as document 01 and document 02, Tickets 1 and 2, want them: the record `Accepts`. Rests on Verdicts,
 -- SignedVerdicts and Answers.
 use mathlib.Core.Path.{sym, _∙_}
 use lib.ListN.{length}
@@ -9,7 +9,7 @@ use Rattle.element_calls.specs.Calls.{rankVerdict, sizeVerdict, wordVerd
 use Rattle.element_calls.specs.Claims.{Accepts}
 use Rattle.element_calls.proofs.Verdicts.{one-accepted, two-accepted, three-accepted, product-accepted, word-accepted}
 use Rattle.element_calls.proofs.SignedVerdicts.{signed-accepted}
-use Rattle.element_calls.proofs.Answers.{sum-verdict, scale-verdict, act-verdict, signed-verdict, product-verdict}
+use Rattle.element_calls.proofs.Answers.{sum-verdict, scale-verdict, act-verdict, signed-verdict, product-verdict, pairing-verdict}
 
 pub accepts : Accepts
 unfolding needed
@@ -25,4 +25,5 @@ accepts = record {
   act-signed-word = λ m q x h t. signed-accepted m (length h) q x (sym (signed-verdict m q x h) ∙ t);
   product = λ m q h g result scratch t.
       product-accepted m (length h) (length g) (length result) (length scratch) (sym (product-verdict m q h g result scratch) ∙ t);
+  pairing = λ m q h g t. two-accepted m (length h) (length g) (sym (pairing-verdict m q h g) ∙ t);
 }

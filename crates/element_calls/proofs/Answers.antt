@@ -11,13 +11,14 @@ use Rattle.refusals.specs.declared.Verdict.{Verdict}
 use Rattle.algebra.specs.Element.{plus, scale}
 use Rattle.algebra.specs.Product.{act, times}
 use Rattle.algebra.specs.Nested.{operations, nested}
+use Rattle.algebra.specs.Pairing.{pairing}
 use Rattle.signed_words.specs.Words.{signedAct}
 use Rattle.ranks.specs.Ranks.{needed}
 use Rattle.element_calls.specs.declared.Parameters.{Parameters}
 use Rattle.element_calls.specs.Coefficients.{ring, parametersOf, inverseParameters}
-use Rattle.element_calls.specs.Calls.{rankVerdict, sizeVerdict, scratchVerdict, wordVerdict, signedVerdict, sumCall, scaleCall, actWordCall, actSignedWordCall, productCall}
-use Rattle.element_calls.specs.Claims.{Taken}
-use Rattle.element_calls.proofs.Calls.{write-verdict, write-lent, write-count}
+use Rattle.element_calls.specs.Calls.{rankVerdict, sizeVerdict, scratchVerdict, wordVerdict, signedVerdict, sumCall, scaleCall, actWordCall, actSignedWordCall, productCall, pairingCall}
+use Rattle.element_calls.specs.Claims.{Taken, Given}
+use Rattle.element_calls.proofs.Calls.{write-verdict, write-lent, write-count, valued-verdict, valued-value}
 
 module _ (m : ℕ) (h g result : List ℕ) where
   abbrev sumChecks : Verdict
@@ -109,3 +110,15 @@ module _ (m q : ℕ) (h g result scratch : List ℕ) where
       → let p = parametersOf q in productCall m q h g result scratch .answer .count ≡ operations (nested ℕ (ring p) (p .q) (p .r) m m h g .count)
   unfolding productCall
   product-counts t = write-count productChecks _ _ _ t
+
+module _ (m q : ℕ) (h g : List ℕ) where
+  abbrev pub pairingChecks : Verdict
+  pairingChecks = rankVerdict m then sizeVerdict m (length h) then sizeVerdict m (length g)
+
+  pub pairing-verdict : pairingCall m q h g .verdict ≡ pairingChecks
+  unfolding pairingCall
+  pairing-verdict = valued-verdict pairingChecks _
+
+  pub pairing-value : Given (pairingCall m q h g) → let p = parametersOf q in pairingCall m q h g .value ≡ pairing ℕ (ring p) (p .q) m h g
+  unfolding pairingCall
+  pairing-value t = valued-value pairingChecks _ t

@@ -1,4 +1,4 @@
--- How a call ends that no check refuses, and what a product counts. Rests on refusals' Ended and algebra's Counts.
+-- How a call ends that no check refuses, what it gives, and what a product counts. Rests on refusals' Ended and algebra's Counts.
 use mathlib.Core.Path.{_≡_, refl, ap, _∙_}
 use mathlib.Core.List.{List}
 use Prim.Native.Nat.{ℕ}
@@ -14,8 +14,10 @@ use Rattle.algebra.specs.Cost.{C}
 use Rattle.algebra.proofs.Counts.{counts}
 use Rattle.element_calls.specs.declared.Parameters.{Parameters}
 use Rattle.element_calls.specs.Coefficients.{ring, Coefficient}
-use Rattle.element_calls.specs.Calls.{write}
-use Rattle.element_calls.specs.Claims.{Taken}
+use Rattle.element_calls.specs.Calls.{write, valued}
+use Rattle.element_calls.specs.Claims.{Taken, Given}
+
+-- ---- a call that writes
 
 module _ {A : Type 0} where
   pub write-done : {v : Verdict} {k : ℕ} {a : Answer} (old new last : A) (n : ℕ) → v ≡ Accepted → last ≡ new → k ≡ n → a ≡ accepted k
@@ -36,6 +38,18 @@ module _ {A : Type 0} where
   unfolding ended
   write-count Accepted old new n t = refl
   write-count (Refused why) old new n t = let z : _≡_ {A = ℕ} 0 1 = cc in absurd (omega arith)
+
+-- ---- a call that gives a word
+
+pub valued-verdict : (v : Verdict) (x : ℕ) → valued v x .verdict ≡ v
+valued-verdict Accepted x = refl
+valued-verdict (Refused why) x = refl
+
+pub valued-value : (v : Verdict) (x : ℕ) → Given (valued v x) → valued v x .value ≡ x
+valued-value Accepted x t = refl
+valued-value (Refused why) x t = let z : _≡_ {A = ℕ} 0 1 = cc in absurd (omega arith)
+
+-- ---- the count of a product
 
 pub product-counted : {m : ℕ} {h g : List ℕ} (p : Parameters) → Element (Coefficient p) m h → Element (Coefficient p) m g
     → operations (nested ℕ (ring p) (p .q) (p .r) m m h g .count) ≡ C m m

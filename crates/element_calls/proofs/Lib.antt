@@ -8,8 +8,8 @@ pub mod InverseVerdicts
 pub mod SignedVerdicts
 -- the calls
 pub mod Calls
-pub mod Refusals
 pub mod Answers
+pub mod Refusals
 pub mod Accepts
 -- demand 3
 pub mod Demand3
@@ -21,3 +21,5 @@ pub mod SignedHome
 pub mod InverseCalls
 pub mod SignedCounts
 pub mod SignedCalls
+-- the pairing
+pub mod PairingCalls

@@ -1,6 +1,7 @@
--- A call that is refused counts 0 and leaves every lent slice as it was, and a place is at most 4,096: the record `Refusals`. Rests on Verdicts,
--- SignedVerdicts, and refusals' Verdicts and Ended.
-use mathlib.Core.Path.{refl}
+-- A call that is refused counts 0 and leaves every lent slice as it was, or gives 0, and a place is at most 4,096: the record `Refusals`. Rests on Verdicts,
+-- SignedVerdicts, Answers, and refusals' Verdicts and Ended.
+use mathlib.Core.Path.{_≡_, refl}
+use mathlib.Core.Logic.{_≢_}
 use mathlib.Core.Bool.{not}
 use Prim.Native.Nat.{ℕ}
 use native.Mathlib.Omega.{arith}
@@ -9,13 +10,15 @@ use Rattle.lists.specs.Lists.{same, less}
 use Rattle.refusals.specs.Refusals.{_then_, accepted, answerReport, Keeps}
 use Rattle.refusals.specs.declared.Refusal.the-variants as R
 use Rattle.refusals.specs.declared.Verdict.{Verdict}
+use Rattle.refusals.specs.declared.Verdict.the-variants.{Accepted, Refused}
 use Rattle.refusals.proofs.Verdicts.{Near, near-then, near-unless}
-use Rattle.refusals.proofs.Ended.{ended-keeps}
+use Rattle.refusals.proofs.Ended.{ended-keeps, refuses-verdict}
 use Rattle.ranks.specs.Ranks.{size, scratchSize}
-use Rattle.element_calls.specs.Calls.{rankVerdict, sizeVerdict, scratchVerdict, wordVerdict, write, sumCall, scaleCall, actWordCall, actSignedWordCall, productCall}
+use Rattle.element_calls.specs.Calls.{rankVerdict, sizeVerdict, scratchVerdict, wordVerdict, write, valued, valuedReport, sumCall, scaleCall, actWordCall, actSignedWordCall, productCall, pairingCall}
 use Rattle.element_calls.specs.Claims.{Refusals}
 use Rattle.element_calls.proofs.Verdicts.{word-near}
 use Rattle.element_calls.proofs.SignedVerdicts.{signed-near}
+use Rattle.element_calls.proofs.Answers.{pairingChecks, pairing-verdict}
 
 rank-near : (m : ℕ) → Near (rankVerdict m)
 unfolding rankVerdict
@@ -45,8 +48,12 @@ three-near m a b c = more (rankVerdict m then sizeVerdict m a then sizeVerdict m
 write-keeps : {A : Type 0} (v : Verdict) (old new : A) (n : ℕ) → Near v → Keeps (answerReport (write v old new n .answer)) old (write v old new n .lent)
 write-keeps v old new n h = ended-keeps answerReport v _ (accepted n) n old new (λ why. refl) refl h
 
+valued-zero : (v : Verdict) (x : ℕ) → valuedReport (valued v x) .number ≢ 0 → valued v x .value ≡ 0
+valued-zero Accepted x d = absurd (d refl)
+valued-zero (Refused why) x d = refl
+
 pub refusals : Refusals
-unfolding sumCall scaleCall actWordCall actSignedWordCall productCall
+unfolding sumCall scaleCall actWordCall actSignedWordCall productCall pairingCall
 refusals = record {
   sum = λ m h g result. write-keeps _ _ _ _ (three-near m (length h) (length g) (length result));
   scale = λ m c h result. write-keeps _ _ _ _ (two-near m (length h) (length result));
@@ -57,4 +64,6 @@ refusals = record {
       let three = rankVerdict m then sizeVerdict m (length h) then sizeVerdict m (length g) then sizeVerdict m (length result) in
       write-keeps _ _ _ _
       (more three (scratchVerdict m (length scratch)) (three-near m (length h) (length g) (length result)) (scratch-near m (length scratch)));
+  pairing = λ m q h g. rw (pairing-verdict m q h g) (refuses-verdict (pairingChecks m q h g) (two-near m (length h) (length g)));
+  pairing-zero = λ m q h g. valued-zero (pairingChecks m q h g) _;
 }

@@ -4,3 +4,4 @@ pub mod Steps
 pub mod Claims
 pub mod Demand3
 pub mod SignedCalls
+pub mod PairingCalls

@@ -3,7 +3,6 @@
 
 ghost use mathlib.Core.Path.{_≡_};
 ghost use Rattle.element_calls.specs.Coefficients.{parametersOf};
-
 use refusals::Verdict;
 
 pub mod checks;

@@ -28,7 +28,7 @@ unfolding rgtWord
 ascends-len [] w p c = omega arith
 ascends-len (i ∷ x) w p c = omega (arith, ascends-len x (rgt i w) (perm-rgt (c .0) p) (c .2), upR i w (c .0) p (c .1))
 
-rgtWord-le : {m : ℕ} (x w : List ℕ) → Word m x → Perm m w → len (rgtWord x w) ≤ len w + length x
+pub rgtWord-le : {m : ℕ} (x w : List ℕ) → Word m x → Perm m w → len (rgtWord x w) ≤ len w + length x
 unfolding rgtWord
 rgtWord-le [] w a p = omega arith
 rgtWord-le (i ∷ x) w a p = omega (arith, rgtWord-le x (rgt i w) (a .1) (perm-rgt (a .0) p), len-rgt-le i w (a .0) p)

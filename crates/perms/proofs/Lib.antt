@@ -29,6 +29,7 @@ pub mod InverseExtend
 pub mod Standard
 pub mod ImagesOf
 pub mod Lengths
+pub mod InverseWords
 pub mod ShortestWord
 pub mod HigherRank
 pub mod Descent

@@ -27,7 +27,7 @@ unfolding range len
 len-range a zero = refl
 len-range a (suc n) = omega (arith, below-range a (suc a) n (omega arith), len-range (suc a) n)
 
-len-identity : (m : ℕ) → len (identity m) ≡ 0
+pub len-identity : (m : ℕ) → len (identity m) ≡ 0
 unfolding identity
 len-identity m = len-range 1 (m + 1)
 
