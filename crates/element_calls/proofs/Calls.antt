@@ -1,9 +1,10 @@
 -- How a call ends that no check refuses, what it gives, and what a product counts. Rests on refusals' Ended and algebra's Counts.
-use mathlib.Core.Path.{_≡_, refl, ap, _∙_}
+use mathlib.Core.Path.{_≡_, refl, sym, ap, _∙_}
 use mathlib.Core.List.{List}
 use Prim.Native.Nat.{ℕ}
 use native.Mathlib.Omega.{arith}
 use Rattle.refusals.specs.Refusals.{accepted, ended}
+use Rattle.refusals.specs.declared.Refusal.{Refusal}
 use Rattle.refusals.specs.declared.Verdict.{Verdict}
 use Rattle.refusals.specs.declared.Verdict.the-variants.{Accepted, Refused}
 use Rattle.refusals.specs.declared.Answer.{Answer}
@@ -13,6 +14,7 @@ use Rattle.algebra.specs.Nested.{operations, nested}
 use Rattle.algebra.specs.Cost.{C}
 use Rattle.algebra.proofs.Counts.{counts}
 use Rattle.element_calls.specs.declared.Parameters.{Parameters}
+use Rattle.element_calls.specs.declared.Valued.{Valued}
 use Rattle.element_calls.specs.Coefficients.{ring, Coefficient}
 use Rattle.element_calls.specs.Calls.{write, valued}
 use Rattle.element_calls.specs.Claims.{Taken, Given}
@@ -48,6 +50,12 @@ valued-verdict (Refused why) x = refl
 pub valued-value : (v : Verdict) (x : ℕ) → Given (valued v x) → valued v x .value ≡ x
 valued-value Accepted x t = refl
 valued-value (Refused why) x t = let z : _≡_ {A = ℕ} 0 1 = cc in absurd (omega arith)
+
+pub valued-refused : (v : Verdict) (x : ℕ) {why : Refusal} → v ≡ Refused why → record { verdict = Refused why; value = 0 } ≡ valued v x
+valued-refused v x e = sym (ap (λ v. valued v x) e)
+
+pub valued-done : (v : Verdict) (x : ℕ) {y : ℕ} → v ≡ Accepted → y ≡ x → record { verdict = Accepted; value = y } ≡ valued v x
+valued-done v x e f = ap {B = Valued} (λ z. record { verdict = Accepted; value = z }) f ∙ sym (ap (λ v. valued v x) e)
 
 -- ---- the count of a product
 

@@ -38,10 +38,10 @@ found-join {m} k top b f g u h p r =
     let c = suc m - k in
     let e : pred (m + 2 - k) ≡ c = omega arith in
     let all : fall (weight f) (inverse (join m k u)) ≡ weight f c * c + fall (weight g) (inverse u) =
-        ap (λ w. fall (weight f) (inverse w)) (join-extend k u h p)
-        ∙ fall-extend t (weight f)
-        ∙ ap (λ c. weight f c * c + fall (λ j. weight f (bump c j)) (inverse u)) e
-        ∙ ap (λ n. weight f c * c + n) (fall-agree (λ j. weight f (bump c j)) (weight g) (inverse u) (perm-inverse u p) (λ j l. sym (r j l))) in
+    ap (λ w. fall (weight f) (inverse w)) (join-extend k u h p)
+    ∙ fall-extend t (weight f)
+    ∙ ap (λ c. weight f c * c + fall (λ j. weight f (bump c j)) (inverse u)) e
+    ∙ ap (λ n. weight f c * c + n) (fall-agree (λ j. weight f (bump c j)) (weight g) (inverse u) (perm-inverse u p) (λ j l. sym (r j l))) in
     ap (λ i. getD b i 0) (omega (arith, all))
 
 -- ---- how far one falls
@@ -65,5 +65,5 @@ pub reach-rest : (m c top : ℕ) (f g : List ℕ) → c ≤ m → Rest m c f g �
     → series 0 m (λ j. weight g j * j) ≤ top - c * weight f c
 reach-rest m c top f g h r l =
     let less : series 0 m (λ j. weight g j * j) ≤ series 0 m (λ j. weight f (bump c j) * bump c j) =
-        series-mono m _ _ (λ j k. omega (arith, ap (λ x. x * j) (r j k), mul-le-mul-left (weight f (bump c j)) (bump-above c j))) in
+    series-mono m _ _ (λ j k. omega (arith, ap (λ x. x * j) (r j k), mul-le-mul-left (weight f (bump c j)) (bump-above c j))) in
     omega (arith, series-without m c (λ j. weight f j * j) h, less)

@@ -39,7 +39,7 @@ module _ {m : ℕ} {a b : List ℕ} (h : PairPre m a b) where
   pub walk-pre : 1 ≤ m → WalkPre m (length b - 1) a b factorials
   walk-pre some =
       let each = series-cong 0 (suc m) (λ j. weight factorials j * j) (λ j. factorial j * j)
-          (λ i l. ap (λ x. x * (0 + i)) (factorial-at (0 + i) (omega (arith, h .low)))) in
+      (λ i l. ap (λ x. x * (0 + i)) (factorial-at (0 + i) (omega (arith, h .low)))) in
       record {
         some = some;
         low = h .low;
@@ -61,9 +61,8 @@ module _ {m : ℕ} {a b : List ℕ} (h : PairPre m a b) where
   unfolding walked pairing byLength
   walk-pairs q = by-length-cong ℕ words q m a _ _ found-inverse
 
-  pub one-word : m ≡ 0 → factorial (suc m) ≡ 1
-  unfolding factorial
-  one-word e = ap (λ (n : ℕ). factorial (suc n)) e
+  pub some-words : (1 ≤ length a) × (1 ≤ length b)
+  some-words = (omega (arith, h .left, series-factorials (suc m)), omega (arith, h .right, series-factorials (suc m)))
 
 first-place : (b : List ℕ) → coefficient ℕ words b (inverse (identity 0)) ≡ getD b 0 0
 unfolding coefficient factorial modular

@@ -4,14 +4,7 @@ ghost use mathlib.Core.Path.{_≡_};
 ghost use Rattle.pairings.specs.Walk.{WalkPre, walked};
 
 // The sum over the permutations w of rank m of q to the power ℓ(w) times a_w times b where the inverse of w finds it.
-pub(crate) fn walk(
-    a: &[u64],
-    b: &[u64],
-    m: usize,
-    q: u64,
-    top: usize,
-    weights: &[usize],
-) -> u64
+pub(crate) fn walk(a: &[u64], b: &[u64], m: usize, q: u64, top: usize, weights: &[usize]) -> u64
     requires { ⌜ WalkPre m top (now a) (now b) (now weights) ⌝ }
     ensures { λ r. ⌜ r ≡ walked q m top (now (a .entry)) (now (b .entry)) (now (weights .entry)) ⌝ }
 {
@@ -21,7 +14,13 @@ pub(crate) fn walk(
     }
     let size = ranks::size(m - 1);
     let mut rest = [
-        weights[1], weights[2], weights[3], weights[4], weights[5], weights[6], 0,
+        weights[1],
+        weights[2],
+        weights[3],
+        weights[4],
+        weights[5],
+        weights[6],
+        0,
     ];
     let mut sum: u64 = 0;
     for c in 0..m + 1 {
