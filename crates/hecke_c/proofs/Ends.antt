@@ -8,6 +8,8 @@ use Rattle.refusals.specs.declared.Verdict.the-variants.{Accepted, Refused}
 use Rattle.refusals.specs.declared.Answer.{Answer}
 use Rattle.perm_calls.specs.Calls.{countedReport}
 use Rattle.perm_calls.specs.declared.Counted.{Counted}
+use Rattle.element_calls.specs.Calls.{valuedReport}
+use Rattle.element_calls.specs.declared.Valued.{Valued}
 use Rattle.hecke_c.specs.Returned.{wordOf, told, Returned, Answered}
 use Rattle.hecke_c.specs.Calls.{verdictCall, countedCall, answerCall}
 
@@ -46,3 +48,16 @@ pub told-answer : {r s : Report} {xs ys : List ℕ} {w : ℕ} {y : List ℕ} (an
     → (w ≡ wordOf r) × (y ≡ told r xs answer)
     → _≡_ {A = Returned (List ℕ)} (record { word = wordOf s; lent = told s ys answer }) (record { word = w; lent = y })
 told-answer answer e g f = sym (λ i. record { word = (f .0 ∙ ap wordOf e) i; lent = (f .1 ∙ (λ j. told (e j) (g j) answer)) i })
+
+-- a call that gives one word, of which the count says nothing
+pub told-value : {a b : Valued} {w : ℕ} {y : List ℕ} (answer : List ℕ) → a ≡ b
+    → (w ≡ wordOf (reported (a .verdict) (a .value))) × (y ≡ told (reported (a .verdict) (a .value)) (a .value ∷ []) answer)
+    → _≡_ {A = Returned (List ℕ)} (record { word = wordOf (valuedReport b); lent = told (valuedReport b) (b .value ∷ []) answer }) (record { word = w; lent = y })
+unfolding wordOf told
+told-value {a} {b} {w} {y} answer e f =
+    told-answer {r = valuedReport a} answer (ap valuedReport e) (ap (λ c. c .value ∷ []) e) (go (a .verdict) f)
+  where
+    go : (v : Verdict) → (w ≡ wordOf (reported v (a .value))) × (y ≡ told (reported v (a .value)) (a .value ∷ []) answer)
+        → (w ≡ wordOf (verdictReport v)) × (y ≡ told (verdictReport v) (a .value ∷ []) answer)
+    go Accepted f = f
+    go (Refused why) f = f

@@ -14,6 +14,7 @@ use Rattle.perm_calls.specs.declared.Generators.{Generators}
 use Rattle.perm_calls.proofs.Refusals as perms
 use Rattle.element_calls.specs.Calls.{Buffers, sumCall, scaleCall, actWordCall, actSignedWordCall}
 use Rattle.element_calls.specs.Calls as elements
+use Rattle.element_calls.specs.declared.Valued.{Valued}
 use Rattle.element_calls.proofs.Refusals as elements-refuse
 use Rattle.sheet.specs.Check.{checkSheet}
 use Rattle.sheet.proofs.Table.{exactly}
@@ -78,6 +79,9 @@ module _ {a : Answer} {lent : List ℕ} where
 pub element-product-near : {a : Answer} {lent : Buffers} (m q : ℕ) (h g result scratch : List ℕ)
     → elements.productCall m q h g result scratch ≡ record { answer = a; lent = lent } → verdictReport (a .verdict) .place ≤ 4096
 element-product-near {a} m q h g result scratch e = verdict-near a (near answerReport e (elements-refuse.refusals .product m q h g result scratch))
+
+pub pairing-near : {a : Valued} (m q : ℕ) (h g : List ℕ) → a ≡ elements.pairingCall m q h g → verdictReport (a .verdict) .place ≤ 4096
+pairing-near m q h g e = subst (λ a. verdictReport (a .verdict) .place ≤ 4096) (sym e) (elements-refuse.refusals .pairing m q h g .near)
 
 pub check-near : {v : Verdict} (s : List ℕ) → v ≡ checkSheet s → verdictReport v .place ≤ 4096
 check-near s e = subst (λ v. verdictReport v .place ≤ 4096) (sym e) (exactly s .report .near)

@@ -11,7 +11,7 @@ use Rattle.refusals.specs.declared.Verdict.{Verdict}
 use Rattle.refusals.specs.declared.Answer.{Answer}
 use Rattle.perm_calls.specs.Calls.{towerOfCall, imagesOfCall, inverseCall, productCall, lengthCall, standardWordCall, descentsCall, countedReport, generatorsReport, generatorsMask}
 use Rattle.perm_calls.specs.declared.Counted.{Counted}
-use Rattle.element_calls.specs.Calls.{Buffers, sumCall, scaleCall, actWordCall, actSignedWordCall}
+use Rattle.element_calls.specs.Calls.{Buffers, valuedReport, sumCall, scaleCall, actWordCall, actSignedWordCall, pairingCall}
 use Rattle.element_calls.specs.Calls as elements
 use Rattle.sheet.specs.Check.{checkSheet}
 use Rattle.runner.specs.Run.{runCall}
@@ -68,6 +68,12 @@ actSignedWord m q word element answer = answerCall (actSignedWordCall m q word e
 
 abbrev pub product : (m q : ℕ) (left right result scratch answer : List ℕ) → Answered Buffers
 product m q left right result scratch answer = answerCall (elements.productCall m q left right result scratch) answer
+
+unfoldable pub pairing : (m q : ℕ) (left right answer : List ℕ) → Returned (List ℕ)
+pairing m q left right answer =
+    let a = pairingCall m q left right in
+    let r = valuedReport a in
+    record { word = wordOf r; lent = told r (a .value ∷ []) answer }
 
 -- ---- sheets
 

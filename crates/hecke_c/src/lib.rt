@@ -1,12 +1,12 @@
 // The calls for programs in C and Rust, on plain numbers and slices; a slice is a pointer and a length.
 //
-// A call is that of towers, tower_words, linear, hecke, sheet or runner with the same refusals. It returns 0, or the refusal's
+// A call is that of towers, tower_words, linear, hecke, pairings, sheet or runner with the same refusals. It returns 0, or the refusal's
 // number plus 256 times its place; then every lent slice is as it was. What a call counts or answers goes to the front of a
 // lent answer, as far as it has room. include/hecke.h has the declarations.
 
 ghost use mathlib.Core.Path.{_≡_};
 ghost use Rattle.ranks.specs.Ranks.{size, scratchSize};
-ghost use Rattle.hecke_c.specs.Calls.{towerOfImages, imagesOfTower, towerInverse, towerProduct, towerLength, towerWord, towerDescents, sum, scale, actWord, actSignedWord, product, sheetCheck, runSheet};
+ghost use Rattle.hecke_c.specs.Calls.{towerOfImages, imagesOfTower, towerInverse, towerProduct, towerLength, towerWord, towerDescents, sum, scale, actWord, actSignedWord, product, pairing, sheetCheck, runSheet};
 
 mod returned;
 
@@ -172,6 +172,23 @@ pub extern "C" fn hecke_product(
     let done = hecke::product(m, q, left, right, result, scratch);
     let verdict = done.verdict;
     returned::answered(verdict, done.count, answer)
+}
+
+// The pairing of two elements of rank m, which is the coefficient of the unit in their product, as the answer.
+// Example: of rank 1 with q = 3, for 0 1 and 0 1 it returns 0 and answers 3.
+#[no_mangle]
+pub extern "C" fn hecke_pairing(
+    m: usize,
+    q: u64,
+    left: &[u64],
+    right: &[u64],
+    answer: &mut [u64],
+) -> u64
+    ensures { λ w. ⌜ pairing m q (now (left .entry)) (now (right .entry)) (now (answer .entry)) ≡ record { word = w; lent = now (answer .exit) } ⌝ }
+{
+    let paired = pairings::pairing(m, q, left, right);
+    let verdict = paired.verdict;
+    returned::answered(verdict, paired.value, answer)
 }
 
 // The check of a whole sheet.
