@@ -1,4 +1,5 @@
-"""Document 01's sections "Elements and their product" and "The count": cases, edges, and the two methods; inverse letters; the pairing."""
+"""Document 01's sections "Elements and their product" and "The count": cases, edges, and the two methods; document 02's inverse
+letters and pairing."""
 import random
 import unittest
 from math import factorial, prod
