@@ -81,6 +81,15 @@ fn time(times: Option<&Times>) -> String {
     format!("{:.1} ({:.1}) {name}", times.least / unit, times.median / unit)
 }
 
+/// A ratio with two decimals, or four below a tenth.
+fn decimals(ratio: f64) -> String {
+    if ratio < 0.1 {
+        format!("{ratio:.4}")
+    } else {
+        format!("{ratio:.2}")
+    }
+}
+
 /// The columns of times; the last is there where an older archive is.
 const CONTENDERS: &[&str] = &[
     "library",
@@ -116,7 +125,7 @@ impl Row {
 
     fn line(&self) -> String {
         let times = CONTENDERS.iter().map(|name| time(self.of(name)));
-        let ratio = |ratio: Option<f64>| ratio.map_or("–".to_string(), |ratio| format!("{ratio:.2}"));
+        let ratio = |ratio: Option<f64>| ratio.map_or("–".to_string(), decimals);
         let ratios = RATIOS.iter().map(|(upper, lower)| ratio(self.ratio(upper, lower)));
         joined([self.call.to_string(), self.size.clone()].into_iter().chain(times).chain(ratios))
     }
@@ -148,7 +157,7 @@ fn both(heads: [&str; 3], all: &[Both]) -> String {
     let mut text = format!("| size | {} |\n|---|---|---|---|\n", heads.join(" | "));
     for both in all {
         let (one, other) = (time(Some(&both.one)), time(Some(&both.other)));
-        writeln!(text, "| rank {} | {one} | {other} | {:.2} |", both.m, both.ratio()).unwrap();
+        writeln!(text, "| rank {} | {one} | {other} | {} |", both.m, decimals(both.ratio())).unwrap();
     }
     text
 }
@@ -199,7 +208,7 @@ fn judged(all: &Measured) -> Vec<(&'static str, f64, bool)> {
 pub fn aims(all: &Measured) -> String {
     let mut text = String::from("| aim | measured | holds |\n|---|---|---|\n");
     for (aim, measured, holds) in judged(all) {
-        writeln!(text, "| {aim} | {measured:.2} | {} |", if holds { "yes" } else { "no" }).unwrap();
+        writeln!(text, "| {aim} | {} | {} |", decimals(measured), if holds { "yes" } else { "no" }).unwrap();
     }
     text
 }
