@@ -1,4 +1,4 @@
-//! Compiles `c/nested.c` by cc, and by clang where there is one, and renames the calls of an older archive, if one is given.
+//! Compiles the files of `c/` by cc, and by clang where there is one, and renames the calls of an older archive, if one is given.
 
 use std::path::{Path, PathBuf};
 use std::process::Command;
@@ -9,13 +9,19 @@ fn run(command: &mut Command) {
     assert!(status.success(), "{command:?} fails");
 }
 
-/// Compiles the product and the word action under names that begin with the compiler's, for the archive's target.
-fn compiled(compiler: &str, out: &Path) -> PathBuf {
-    let object = out.join(format!("nested_{compiler}.o"));
-    let names = [format!("-DPRODUCT={compiler}_product"), format!("-DACT_WORD={compiler}_act_word")];
-    let flags = ["-std=gnu11", "-Wall", "-Wextra", "-O3", "-march=x86-64", "-fPIE", "-c", "c/nested.c", "-o"];
-    run(Command::new(compiler).args(names).args(flags).arg(&object));
-    object
+/// The files in C, by name.
+const FILES: [&str; 2] = ["nested", "pairing"];
+
+/// Compiles the product, the word action and the pairing under names that begin with the compiler's, for the archive's target.
+fn compiled(compiler: &str, out: &Path) -> [PathBuf; 2] {
+    FILES.map(|file| {
+        let (source, object) = (format!("c/{file}.c"), out.join(format!("{file}_{compiler}.o")));
+        let calls = [("PRODUCT", "product"), ("ACT_WORD", "act_word"), ("PAIRING", "pairing")];
+        let names = calls.map(|(name, call)| format!("-D{name}={compiler}_{call}"));
+        let flags = ["-std=gnu11", "-Wall", "-Wextra", "-O3", "-march=x86-64", "-fPIE", "-c", &source, "-o"];
+        run(Command::new(compiler).args(names).args(flags).arg(&object));
+        object
+    })
 }
 
 /// Has the static library of a name, which stands in the folder, linked.
@@ -35,20 +41,20 @@ fn renamed(archive: &str, out: &Path) {
 
 fn main() {
     let out = PathBuf::from(std::env::var("OUT_DIR").unwrap());
-    println!("cargo::rerun-if-changed=c/nested.c");
+    FILES.iter().for_each(|file| println!("cargo::rerun-if-changed=c/{file}.c"));
     println!("cargo::rerun-if-env-changed=PATH");
     println!("cargo::rerun-if-env-changed=HECKE_BEFORE");
     println!("cargo::rustc-check-cfg=cfg(clang, before)");
 
-    let mut objects = vec![compiled("cc", &out)];
+    let mut objects = compiled("cc", &out).to_vec();
     if Command::new("clang").arg("--version").output().is_ok() {
         println!("cargo::rustc-cfg=clang");
-        objects.push(compiled("clang", &out));
+        objects.extend(compiled("clang", &out));
     }
-    let library = out.join("libnested.a");
+    let library = out.join("libtuned.a");
     let _ = std::fs::remove_file(&library);
     run(Command::new("ar").arg("crs").arg(&library).args(objects));
-    link("nested", &out);
+    link("tuned", &out);
 
     if let Some(archive) = std::env::var("HECKE_BEFORE").ok().filter(|archive| !archive.is_empty()) {
         println!("cargo::rerun-if-changed={archive}");

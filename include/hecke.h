@@ -102,6 +102,13 @@ uint64_t hecke_product(size_t m, uint64_t q, const uint64_t *left, size_t left_l
                        uint64_t *result, size_t result_len, uint64_t *scratch, size_t scratch_len,
                        uint64_t *answer, size_t answer_len);
 
+/* The pairing of two elements of rank m, in answer[0]: the coefficient of the unit in their product, which is the sum over w of
+ * q to the power of the length of w, times left at w, times right at the inverse of w (document 02, Ticket 2). It counts no ring
+ * operation. Refused: 1 a rank above 6; 2 a slice that is not M words. Of rank 1 with q = 3, 0 1 and 0 1 give 3. Of rank 2 with
+ * q = 2, 0 0 0 1 0 0, which is T of s_1 s_2, gives 0 with itself and 4 with 0 0 0 0 1 0, which is T of s_2 s_1. */
+uint64_t hecke_pairing(size_t m, uint64_t q, const uint64_t *left, size_t left_len, const uint64_t *right, size_t right_len,
+                       uint64_t *answer, size_t answer_len);
+
 /* The check of a whole run sheet. Refused: 9 a sheet that is empty or over 4,096 bytes; 10 to 13 and 15 each command, lowest
  * offset first (place its offset): unknown, operands cut off, out of order, operand out of range, an inverse letter (0x34) while
  * q is even; 14 a byte after the end command (place its offset), or no end command (place the sheet's length). A lone byte 0 is

@@ -1,16 +1,18 @@
-"""Elements and their product by the definition over permutations (document 01, "Elements and their product").
+"""Elements and their product by the definition over permutations (document 01, "Elements and their product"; document 02, Tickets 1
+and 2).
 
 An element of rank m is the list of its M = (m + 1)! coefficients, words modulo 2^64. Towers appear in the place of a
 coefficient and nowhere else.
 
 The functions named `call_...` are the library's calls: they judge their lists in the order of document 01's table,
-raise Refused before they write anything, otherwise write into the lent lists, and return the count.
+raise Refused before they write anything, otherwise write into the lent lists, and return the count. The call of the
+pairing writes and counts nothing, and returns the pairing.
 """
 from functools import lru_cache
 from itertools import permutations as arrangements
 from math import factorial
 
-from reference.permutations import generator, identity, length, product as compose, tower
+from reference.permutations import generator, identity, inverse, length, product as compose, tower
 from reference.refusals import Refused
 
 WORD = 2 ** 64
@@ -61,8 +63,8 @@ def times_generator(m, q, h, i):
 
 def times_inverse(m, q, h, i):
     """h times the inverse of T_i, for odd q: q' (h T_i) + (q' - 1) h, where q' is the inverse of q modulo 2^64."""
-    inverse = pow(q, -1, WORD)
-    return add(scale(inverse, times_generator(m, q, h, i)), scale(inverse - 1, h))
+    q_inverse = pow(q, -1, WORD)
+    return add(scale(q_inverse, times_generator(m, q, h, i)), scale(q_inverse - 1, h))
 
 
 def act(m, q, h, word):
@@ -112,9 +114,18 @@ def scale(c, h):
     return [c * x % WORD for x in h]
 
 
+@lru_cache(maxsize=None)
+def lengths_and_inverses(m):
+    """For each w by rising place, its length, and the place of its inverse."""
+    return [(length(w), place(inverse(w))) for w in permutations(m)]
+
+
 def pairing(m, q, a, b):
-    """The sum over w of q to the power l(w) times a_w times b_w."""
-    return sum(pow(q, length(w), WORD) * x * y for w, x, y in zip(permutations(m), a, b)) % WORD
+    """The coefficient of the unit in the product ab (document 02, Ticket 2).
+
+    It is the sum over w of q to the power l(w) times a_w times b at the inverse of w.
+    """
+    return sum(pow(q, n, WORD) * x * b[other] for x, (n, other) in zip(a, lengths_and_inverses(m))) % WORD
 
 
 # ---- the count
@@ -217,3 +228,9 @@ def call_product(m, q, h, g, result, scratch):
     used = (m + 6) * size(m)
     scratch[:used] = [0] * used
     return product_count(m, m)
+
+
+def call_pairing(m, q, h, g):
+    check_rank(m)
+    check_elements(m, h, g)
+    return pairing(m, q, h, g)

@@ -8,7 +8,7 @@ from functools import partial
 from itertools import product as every
 from math import factorial
 
-from reference.algebra import WORD, mirror, permutations, size
+from reference.algebra import WORD, mirror, permutations, place, size
 from reference.permutations import inverse, standard_word, tower
 from reference.sheet import (BEGIN, EQUAL, INVERSE, LETTER, MOST_BYTES, MOST_RANK, OPERANDS, PAIR, PRODUCT, REGISTERS, SCALE, SET,
                              SHOW, SUM, UNIT, printed)
@@ -218,17 +218,34 @@ def scales():
         yield f'of_a_sum_rank_{m}', sheet(m, 3, two_elements(m), add(2, 0, 1), scale(2, BYTES), seen(m, 2))
 
 
+def alone(u, v):
+    """The pairing of T_u in register 0 with T_v in register 1, by their indexes; both registers are zero before and after."""
+    return put(0, u, 1) + put(1, v, 1) + pair(0, 1) + put(0, u, 0) + put(1, v, 0)
+
+
 def pairings():
+    """0x41 by itself; beside a product, whose coefficient at the unit is its pairing with the unit; on either side of a product."""
+    yield 'of_s_1_s_2_with_itself_and_with_s_2_s_1_at_q_2', sheet(2, 2, put(0, 3, 1), put(1, 4, 1), pair(0, 0), pair(0, 1))
     pairs = every(range(REGISTERS), repeat=2)
-    yield 'each_pair_of_registers', sheet(2, 3, loaded(2), *(pair(*two) for two in pairs), SHOWS)
-    alone = (put(0, index, 1) + pair(0, 0) + put(0, index, 0) for index in range(size(3)))
-    yield 'power_of_q_by_length_rank_3', sheet(3, 3, *alone)
+    yield 'each_pair_of_registers', sheet(2, 3, loaded(2), put(0, 4, 5), *(pair(*two) for two in pairs), SHOWS)
+    yield 'each_two_basis_elements_rank_2', sheet(2, 3, *(alone(u, v) for u, v in every(range(size(2)), repeat=2)))
+    inverses = [place(inverse(w)) for w in permutations(3)]
+    yield 'power_of_q_by_length_rank_3', sheet(3, 3, *(alone(w, v) for w, v in enumerate(inverses)))
+    yield 'of_each_basis_element_with_itself_rank_3', sheet(3, 3, *(alone(w, w) for w in range(size(3))))
     yield 'of_longest_rank_5', sheet(5, 3, put(0, size(5) - 1, 1), pair(0, 0))
+    for m in RANKS[2:]:
+        chain = [1 + i % m for i in range(2 * m)]
+        both = unit(0) + braid(0, chain) + unit(1) + braid(1, chain[::-1])
+        yield f'of_a_chain_and_the_reversed_chain_rank_{m}', sheet(m, 3, both, pair(0, 1), pair(0, 0))
     for m in RANKS:
-        yield f'rank_{m}', sheet(m, 3, two_elements(m), pair(0, 1))
+        beside = pair(0, 1) + product(2, 0, 1) + unit(3) + pair(2, 3)
+        yield f'is_the_unit_coefficient_of_the_product_rank_{m}', sheet(m, 3, two_elements(m), beside)
+    source = random.Random(0)
+    three = b''.join(element(source, 3, r) for r in range(3))
+    sides = product(3, 0, 1) + pair(3, 2) + product(3, 1, 2) + pair(0, 3)
+    yield 'either_side_of_a_product_rank_3', sheet(3, BYTES, three, sides)
     for name, q in PARAMETERS.items():
         yield f'at_q_{name}_rank_2', sheet(2, q, two_elements(2), pair(0, 1), pair(0, 0))
-    yield 'of_a_permutation_and_its_inverse', sheet(2, 3, put(0, 3, 1), put(1, 4, 1), pair(0, 0), pair(0, 1))
     yield 'of_zero', sheet(2, 3, unit(0), pair(0, 1), pair(1, 0), pair(2, 3))
     yield 'wraps', sheet(1, 2 ** 32, put(0, 0, 2 ** 63 + 1), put(0, 1, 2 ** 31 + 1), pair(0, 0))
 

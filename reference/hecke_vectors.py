@@ -4,13 +4,14 @@ A vector is a call, a rank, the word q or c, two lists of words, a word of lette
 scratch. A letter is a byte; a signed one is below 0 as 256 less.
 """
 import random
+from itertools import product as every
 
 from reference import algebra
 from reference.algebra import MOST_LETTERS, WORD, basis, size
-from reference.permutations import of_word, standard_word
+from reference.permutations import inverse, of_word, standard_word
 from reference.refusals import Refused
 
-SUM, SCALE, ACT_WORD, PRODUCT, ACT_SIGNED_WORD = range(1, 6)
+SUM, SCALE, ACT_WORD, PRODUCT, ACT_SIGNED_WORD, PAIRING = range(1, 7)
 LENT = 170  # each word of the result and the scratch before the call
 SHOWN = 120  # the most words that are written in full
 DIGEST_BASE = 0x5851F42D4C957F2D
@@ -38,12 +39,13 @@ def digest(words):
 
 
 def line(call, m, q, left, right, word, room, scratch):
-    """A and the count, or E with the number, the place and the count 0; the slice that the call writes; the scratch's digest."""
+    """A and the count or the pairing, or E with the number, the place and 0; the slice that the call writes; the scratch's digest."""
     left, result, scratch = list(left), [LENT] * room, [LENT] * scratch
     calls = {SUM: lambda: algebra.call_sum(m, left, right, result), SCALE: lambda: algebra.call_scale(m, q, left, result),
              ACT_WORD: lambda: algebra.call_act(m, q, left, word),
              ACT_SIGNED_WORD: lambda: algebra.call_act_signed(m, q, left, word),
-             PRODUCT: lambda: algebra.call_product(m, q, left, right, result, scratch)}
+             PRODUCT: lambda: algebra.call_product(m, q, left, right, result, scratch),
+             PAIRING: lambda: algebra.call_pairing(m, q, left, right)}
     try:
         fields = ['A', calls[call]()]
     except Refused as refusal:
@@ -77,8 +79,12 @@ def on_product(m, q, h, g, more=0, scratch=0):
     return PRODUCT, m, q, h, g, [], max(0, len(h) + more), (m + 6) * len(h) + scratch
 
 
+def on_pairing(m, q, h, g):
+    return PAIRING, m, q, h, g, [], 0, 0
+
+
 def on_all(m, q, h, g, word):
-    """Each call but that of signed words."""
+    """Each call but that of signed words and the pairing."""
     yield on_sum(m, h, g)
     yield on_scale(m, q, h)
     yield on_word(m, q, h, word)
@@ -306,12 +312,58 @@ def order_of_signed_checks(source):
     yield on_signed_word(7, 2, h * 840, [-1])
 
 
+# ---- the pairing
+
+def worked_pairings():
+    """Document 02's two cases, of T of s_1 s_2 at rank 2 with q = 2; the example in the comment of `pairings`."""
+    h, g = basis(of_word(2, [1, 2])), basis(of_word(2, [2, 1]))
+    yield on_pairing(2, 2, h, h)
+    yield on_pairing(2, 2, h, g)
+    yield on_pairing(1, 3, [0, 1], [0, 1])
+
+
+def basis_pairings():
+    """Each two T_w of ranks 0 to 2; of rank 3 each T_w with T of its inverse, and with itself."""
+    for m in range(3):
+        for u, v in every(algebra.permutations(m), repeat=2):
+            yield on_pairing(m, 3, basis(u), basis(v))
+    for w in algebra.permutations(3):
+        yield on_pairing(3, 3, basis(w), basis(inverse(w)))
+        yield on_pairing(3, 3, basis(w), basis(w))
+
+
+def random_pairings(source):
+    """At ranks 0 to 4 with each of the q, an even one and two others; at ranks 5 and 6 with an odd and an even one."""
+    for m in range(5):
+        for q in (*QS, source.randrange(0, WORD, 2), source.randrange(WORD), source.randrange(WORD)):
+            yield on_pairing(m, q, random_element(source, m), random_element(source, m))
+    for m in (5, 6):
+        for q in (source.randrange(1, WORD, 2), source.randrange(0, WORD, 2)):
+            yield on_pairing(m, q, random_element(source, m), random_element(source, m))
+
+
+def refused_pairings(source):
+    """Either list, and both, one word short, one word longer and empty; at rank 6 the first one word short, and the second one word
+    longer. Ranks above 6, whatever the lists are: 1 comes before 2."""
+    for m in (0, 1, 3):
+        h = random_element(source, m)
+        lists = h, h[:-1], h + [1], []
+        yield from (on_pairing(m, 3, *two) for two in every(lists, repeat=2) if two != (h, h))
+    h = random_element(source, 6)
+    yield on_pairing(6, 3, h[:-1], h)
+    yield on_pairing(6, 3, h, h + [1])
+    h = random_element(source, 1)
+    for m in (7, 8, 64, 255):
+        yield from (on_pairing(m, 3, *two) for two in every(([], h), repeat=2))
+
+
 def hecke_vectors():
-    """Calls of the five functions on elements, and their whole outcomes."""
+    """Calls of the six functions on elements, and their whole outcomes."""
     source = random.Random(0)
     vectors = [*worked_cases(), *random_calls(source), *large_calls(source), *ranks(source), *sizes(source),
                *shortest_words(source), *words(source), *order_of_checks(source), *signed_worked_cases(), *signed_words(source),
                *mirrors(source), *large_signed_words(source), *signed_refusals(source), *long_signed_words(source),
-               *order_of_signed_checks(source)]
+               *order_of_signed_checks(source), *worked_pairings(), *basis_pairings(), *random_pairings(source),
+               *refused_pairings(source)]
     yield 'crates/hecke_vectors/stdin', b''.join(record(*v) for v in vectors)
     yield 'crates/hecke_vectors/stdout', ''.join(line(*v) for v in vectors).encode()

@@ -1,4 +1,4 @@
-"""Run sheets (document 01, "Run sheets", and the first request of document 02): bytes in, text out."""
+"""Run sheets (document 01, "Run sheets", and document 02, Tickets 1 and 2): bytes in, text out."""
 from collections import namedtuple
 
 from reference import algebra

@@ -1,7 +1,8 @@
 """Sheets that a program is tried with: valid ones, damaged ones, cut ones and the edges. The same every time."""
 import random
 
-from reference.algebra import WORD, mirror, size
+from reference.algebra import WORD, mirror, permutations, place, size
+from reference.permutations import inverse
 from reference.sheet import (BEGIN, EQUAL, INVERSE, LETTER, MOST_BYTES, MOST_RANK, OPERANDS, PAIR, PRODUCT, REGISTERS, SCALE, SET,
                              SHOW, SUM, UNIT)
 
@@ -64,6 +65,15 @@ def aliased(m, q):
     for code in (PRODUCT, SUM):
         for d, a, b in ((0, 1, 2), (1, 1, 2), (2, 1, 2), (0, 1, 1), (1, 1, 1)):
             yield start + command(code, d, a, b) + shows + command(PAIR, a, b) + command(EQUAL, a, b) + command(EQUAL, d, d) + END
+
+
+def paired(source, m, q):
+    """Two registers with random words at some permutations and at the inverses of these: all pairings of the two, and that of their
+    product with the unit, which is the first of them again."""
+    some = source.choices(permutations(m), k=9)
+    start = b''.join(command(SET, r, place(v), word(source)) for w in some for v in (w, inverse(w)) for r in (0, 1))
+    pairs = b''.join(command(PAIR, a, b) for a in (0, 1) for b in (1, 0))
+    return b''.join([command(BEGIN, m, q), start, pairs, command(PRODUCT, 2, 0, 1), command(UNIT, 3), command(PAIR, 2, 3), END])
 
 
 def bounds(m):
@@ -173,6 +183,8 @@ def cases():
     for _ in range(200):
         yield bytes(source.choice([BEGIN, *OPERANDS, 0, 1, 2, 3]) for _ in range(source.randrange(40)))
         yield command(BEGIN, source.randrange(6), 2) + bytes(source.choice([*OPERANDS, 0, 1, 2]) for _ in range(source.randrange(60)))
+    for q in PARAMETERS:
+        yield from (paired(source, m, q) for m in range(MOST_RANK + 1))
 
 
 def short():

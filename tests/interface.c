@@ -1,4 +1,4 @@
-/* The library's calls from C, through include/hecke.h, with results that document 01 states or that are worked from it here.
+/* The library's calls from C, through include/hecke.h, with results that documents 01 and 02 state or that are worked from them here.
  *
  * Every slice that a call is lent stands in `lent`, among guards of a pattern; results, scratch, registers and answers hold the
  * pattern too. `due` is what is to stand there after the call, and the two are compared whole.
@@ -359,6 +359,57 @@ static void products(void) {
     REFUSED(hecke_product(2, 2, LEFT(s1), RIGHT(s1), WORDS(6), SCRATCH(47), ANSWER), 3, 0);
 }
 
+/* The coefficient of the unit in a product. Rank 2 indices 0 to 5 are 1, s_1, s_2, s_1 s_2, s_2 s_1, s_1 s_2 s_1: the inverse of
+ * s_1 s_2 is s_2 s_1, and the others are their own. */
+static void pairings(void) {
+    const uint64_t t1[] = {0, 1}, s1s2[] = {0, 0, 0, 1, 0, 0}, s2s1[] = {0, 0, 0, 0, 1, 0}, three[] = {3}, five[] = {5};
+    const uint64_t h[] = {2, 3, 5, 7, 11, 13}, g[] = {1, 2, 3, 4, 5, 6}, edges[] = {UINT64_MAX, (uint64_t)1 << 63};
+    GIVES(hecke_pairing(2, 2, LEFT(s1s2), RIGHT(s1s2), ANSWER), ANSWERS(0));
+    GIVES(hecke_pairing(2, 2, LEFT(s1s2), RIGHT(s2s1), ANSWER), ANSWERS(4));
+    GIVES(hecke_pairing(2, 2, LEFT(s2s1), RIGHT(s1s2), ANSWER), ANSWERS(4));
+    GIVES(hecke_pairing(2, 2, LEFT(s2s1), RIGHT(s2s1), ANSWER), ANSWERS(0));
+    GIVES(hecke_pairing(0, 9, LEFT(three), RIGHT(five), ANSWER), ANSWERS(15));
+    GIVES(hecke_pairing(1, 3, LEFT(t1), RIGHT(t1), ANSWER), ANSWERS(3));
+    GIVES(hecke_pairing(1, 0, LEFT(t1), RIGHT(t1), ANSWER), ANSWERS(0));
+    GIVES(hecke_pairing(1, 1, LEFT(t1), RIGHT(edges), ANSWER), ANSWERS((uint64_t)1 << 63));
+    GIVES(hecke_pairing(1, 2, LEFT(edges), RIGHT(edges), ANSWER), ANSWERS(1));
+    GIVES(hecke_pairing(1, UINT64_MAX, LEFT(edges), RIGHT(t1), ANSWER), ANSWERS((uint64_t)1 << 63));
+    GIVES(hecke_pairing(2, 0, LEFT(h), RIGHT(g), ANSWER), ANSWERS(2));
+    GIVES(hecke_pairing(2, 10, LEFT(h), RIGHT(g), ANSWER),
+          ANSWERS(2 * 1 + 10 * (3 * 2 + 5 * 3) + 100 * (7 * 5 + 11 * 4) + 1000 * (13 * 6)));
+    REFUSED(hecke_pairing(7, 2, LEFT(t1), RIGHT(t1), ANSWER), 1, 0);
+    REFUSED(hecke_pairing(7, 2, EMPTY, EMPTY, ANSWER), 1, 0);
+    REFUSED(hecke_pairing(SIZE_MAX, 2, LEFT(t1), RIGHT(h), ANSWER), 1, 0);
+    REFUSED(hecke_pairing(2, 2, LEFT(t1), RIGHT(h), ANSWER), 2, 0);
+    REFUSED(hecke_pairing(2, 2, LEFT(h), RIGHT(t1), ANSWER), 2, 0);
+    REFUSED(hecke_pairing(1, 2, LEFT(t1), RIGHT(h), ANSWER), 2, 0);
+    REFUSED(hecke_pairing(1, 2, LEFT(h), RIGHT(t1), ANSWER), 2, 0);
+    REFUSED(hecke_pairing(2, 2, LEFT_PART(h, 5), RIGHT_PART(g, 5), ANSWER), 2, 0);
+}
+
+/* At rank 6 s_1 s_2 s_3 s_4 s_5 s_6 has the tower 1 1 1 1 1 1 and the index 1 + 2 + 6 + 24 + 120 + 720, and its inverse the tower
+ * 0 0 0 0 0 6 and the index 6 x 720; the last index is that of the reversal, of length 21. The sum over all w of 2 to the power of
+ * its length is the product of 2^j - 1 for j = 1 to 7. */
+static void pairings_of_rank_6(void) {
+    static uint64_t h[LARGEST], g[LARGEST];
+    size_t chain = 873, reversed = 4320, last = LARGEST - 1;
+    h[chain] = 5, g[reversed] = 7;
+    GIVES(hecke_pairing(6, 3, LEFT(h), RIGHT(g), ANSWER), ANSWERS(5 * 7 * 729));
+    GIVES(hecke_pairing(6, 3, LEFT(g), RIGHT(h), ANSWER), ANSWERS(5 * 7 * 729));
+    GIVES(hecke_pairing(6, 3, LEFT(h), RIGHT(h), ANSWER), ANSWERS(0));
+    GIVES(hecke_pairing(6, 3, LEFT(g), RIGHT(g), ANSWER), ANSWERS(0));
+    h[last] = 11, g[last] = 13, h[0] = 17, g[0] = 19;
+    GIVES(hecke_pairing(6, 2, LEFT(h), RIGHT(g), ANSWER), ANSWERS(17 * 19 + 5 * 7 * 64 + 11 * 13 * ((uint64_t)1 << 21)));
+    for (size_t i = 0; i < LARGEST; i++) h[i] = g[i] = 1;
+    GIVES(hecke_pairing(6, 2, LEFT(h), RIGHT(g), ANSWER), ANSWERS(1 * 3 * 7 * 15 * 31 * 63 * 127));
+    GIVES(hecke_pairing(6, 1, LEFT(h), RIGHT(g), ANSWER), ANSWERS(5040));
+    GIVES(hecke_pairing(6, 0, LEFT(h), RIGHT(g), ANSWER), ANSWERS(1));
+    REFUSED(hecke_pairing(6, 2, LEFT_PART(h, last), RIGHT(g), ANSWER), 2, 0);
+    REFUSED(hecke_pairing(6, 2, LEFT(h), RIGHT_PART(g, last), ANSWER), 2, 0);
+    REFUSED(hecke_pairing(5, 2, LEFT(h), RIGHT(g), ANSWER), 2, 0);
+    REFUSED(hecke_pairing(7, 2, LEFT(h), RIGHT(g), ANSWER), 1, 0);
+}
+
 /* The unit times h and h times the unit are h, at document 01's counts C(m, m). */
 static void counts(void) {
     const uint64_t due_count[] = {1, 9, 118, 2152, 55840, 2027640, 99518160};
@@ -499,6 +550,9 @@ static void empty_slices(void) {
     REFUSED(hecke_product(0, 1, LEFT(one), RIGHT(one), EMPTY, SCRATCH(6), ANSWER), 2, 0);
     REFUSED(hecke_product(0, 1, LEFT(one), RIGHT(one), WORDS(1), EMPTY, ANSWER), 3, 0);
     REFUSED(hecke_product(7, 1, EMPTY, EMPTY, EMPTY, EMPTY, ANSWER), 1, 0);
+    REFUSED(hecke_pairing(0, 1, EMPTY, RIGHT(one), ANSWER), 2, 0);
+    REFUSED(hecke_pairing(0, 1, LEFT(one), EMPTY, ANSWER), 2, 0);
+    REFUSED(hecke_pairing(0, 1, EMPTY, EMPTY, ANSWER), 2, 0);
 }
 
 /* The calls write and refuse as before where the answer is a null pointer with length 0. */
@@ -522,6 +576,8 @@ static void empty_answers(void) {
     REFUSED(hecke_act_signed_word(1, 2, SIGNED(inverse), WORDS(2), EMPTY), 15, 0);
     GIVES(hecke_product(1, 3, LEFT(h), RIGHT(h), WORDS(2), SCRATCH(14), EMPTY), WORDS_ARE(3, 2), CLEARED(14));
     REFUSED(hecke_product(1, 3, LEFT(h), RIGHT(h), WORDS(2), SCRATCH(13), EMPTY), 3, 0);
+    GIVES(hecke_pairing(1, 3, LEFT(h), RIGHT(h), EMPTY), NOTHING);
+    REFUSED(hecke_pairing(2, 3, LEFT(h), RIGHT(h), EMPTY), 2, 0);
     GIVES(hecke_run_sheet(LIST(example), REGISTERS(2880), EMPTY), ZEROS, REGISTER_IS(0, 3, 2));
     REFUSED(hecke_run_sheet(LIST(bad), REGISTERS(2880), EMPTY), 10, 0);
 }
@@ -550,6 +606,8 @@ static void answers_of(size_t room) {
     GIVES(hecke_product(1, 3, LEFT(h), RIGHT(h), WORDS(2), SCRATCH(14), ANSWER_OF(room)),
           WORDS_ARE(3, 2), CLEARED(14), ANSWERS(9));
     REFUSED(hecke_product(1, 3, LEFT(h), RIGHT(h), WORDS(2), SCRATCH(13), ANSWER_OF(room)), 3, 0);
+    GIVES(hecke_pairing(1, 3, LEFT(h), RIGHT(h), ANSWER_OF(room)), ANSWERS(3));
+    REFUSED(hecke_pairing(1, 3, LEFT(h), RIGHT_PART(h, 1), ANSWER_OF(room)), 2, 0);
     GIVES(hecke_run_sheet(LIST(example), REGISTERS(2880), ANSWER_OF(room)), ZEROS, REGISTER_IS(0, 3, 2), ANSWERS(6));
     REFUSED(hecke_run_sheet(LIST(bad), REGISTERS(2880), ANSWER_OF(room)), 12, 0);
     REFUSED(hecke_run_sheet(LIST(example), REGISTERS(2879), ANSWER_OF(room)), 8, 0);
@@ -569,6 +627,8 @@ int main(void) {
     word_actions();
     signed_word_actions();
     products();
+    pairings();
+    pairings_of_rank_6();
     counts();
     sheets();
     longest_sheets();

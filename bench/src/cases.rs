@@ -1,6 +1,7 @@
 //! The cases: the library beside the other contenders, on random inputs and on sheets.
 
 use crate::clock::{agree, race, Times, INPUTS};
+use crate::pairing::{self, Pairing};
 use crate::{before, lists, nested, sheet, towers, tuned};
 use plain::sheet::{Action, Product};
 use std::iter::repeat;
@@ -14,11 +15,20 @@ pub struct Row {
     pub times: Vec<(&'static str, Times)>,
 }
 
-/// The library's times for a word of 100 signed letters and for the same letters without their signs, at one rank.
-pub struct Signs {
+/// The times of two of the library's calls on the same inputs, at one rank.
+pub struct Both {
     pub m: usize,
-    pub signed: Times,
-    pub plain: Times,
+    pub one: Times,
+    pub other: Times,
+}
+
+/// All that is timed.
+pub struct Measured {
+    pub rows: Vec<Row>,
+    /// A word of 100 signed letters and the same letters without their signs.
+    pub signs: Vec<Both>,
+    /// A pairing and a product.
+    pub shares: Vec<Both>,
 }
 
 type Conversion = fn(&[u8], &mut [u8]);
@@ -143,7 +153,7 @@ fn signed_word(timed: bool, m: usize) -> Row {
 }
 
 /// Times a word of signed letters, about half of them inverses, and the same letters without their signs, in turn.
-fn signs(m: usize) -> Signs {
+fn signs(m: usize) -> Both {
     let inputs = &inputs(|random| {
         let word = random.signed_word(m);
         let plain: Vec<u8> = word.iter().map(|letter| letter.unsigned_abs()).collect();
@@ -161,7 +171,40 @@ fn signs(m: usize) -> Signs {
         }
     });
     let times = race(&mut contenders, &vec![1; hecke::size(m)]);
-    Signs { m, signed: times[0], plain: times[1] }
+    Both { m, one: times[0], other: times[1] }
+}
+
+/// The library's pairing.
+const PAIRING: Pairing = |m, q, left, right| hecke::pairing(m, q, left, right).unwrap();
+
+fn pairing(timed: bool, m: usize) -> Row {
+    let inputs = &inputs(|random| (random.word(), random.element(m), random.element(m)));
+    let by: [(&str, Pairing); 3] = [("library", PAIRING), ("(a)", pairing::pairing), ("(b)", lists::pairing)];
+    let contenders = with_others(by, tuned::PAIRINGS, &[]).map(|(name, pairing)| {
+        let run = move |i: usize, value: &mut u64| {
+            let (q, left, right) = &inputs[i];
+            *value = pairing(m, *q, left, right);
+        };
+        (name, run)
+    });
+    Row::new(timed, ("pairing", format!("rank {m}")), contenders, INPUTS, 1)
+}
+
+/// Times a pairing and a product of the same elements, in turn.
+fn shares(m: usize) -> Both {
+    let inputs = &inputs(|random| (random.word(), random.element(m), random.element(m)));
+    let mut contenders = [true, false].map(|paired| {
+        move |i: usize, (result, scratch): &mut (Vec<u64>, Vec<u64>)| {
+            let (q, left, right) = &inputs[i];
+            if paired {
+                result[0] = PAIRING(m, *q, left, right);
+            } else {
+                hecke::product(m, *q, left, right, result, scratch).unwrap();
+            }
+        }
+    });
+    let times = race(&mut contenders, &(vec![1; hecke::size(m)], vec![1; hecke::scratch_size(m)]));
+    Both { m, one: times[0], other: times[1] }
 }
 
 fn conversion(timed: bool, call: &'static str, points: usize, given: [Vec<u8>; INPUTS], by: [Conversion; 2]) -> Row {
@@ -203,20 +246,21 @@ fn whole_sheet(timed: bool, name: &str) -> Row {
     Row::new(timed, ("whole sheet", name.to_string()), contenders, 1, Vec::new())
 }
 
-/// Signed letters beside plain ones, at each rank.
-pub fn all_signs() -> Vec<Signs> {
-    (3..=6).map(signs).collect()
-}
-
 /// All cases, timed or only compared.
 pub fn rows(timed: bool) -> Vec<Row> {
     let ranks = 3..=6;
     let points = [1, 4, 8, 16, 32, 64];
     let mut rows: Vec<Row> = ranks.clone().map(|m| product(timed, m)).collect();
     rows.extend(ranks.clone().map(|m| word(timed, m)));
-    rows.extend(ranks.map(|m| signed_word(timed, m)));
+    rows.extend(ranks.clone().map(|m| signed_word(timed, m)));
+    rows.extend(ranks.map(|m| pairing(timed, m)));
     rows.extend(points.map(|n| tower_of_images(timed, n)));
     rows.extend(points.map(|n| images_of_tower(timed, n)));
     rows.extend(["square.sheet", "products.sheet"].map(|name| whole_sheet(timed, name)));
     rows
+}
+
+/// All cases timed; signed letters beside plain ones, and the pairing beside the product, at each rank.
+pub fn measured() -> Measured {
+    Measured { rows: rows(true), signs: (3..=6).map(signs).collect(), shares: (3..=6).map(shares).collect() }
 }

@@ -1,7 +1,7 @@
-//! Products and words by formula 4.4 on plain lists, as fast as it goes in plain Rust.
+//! Products and words by formula 4.4 on plain lists, as fast as it goes in plain Rust, and the pairing.
 //!
 //! What formula 4.1 asks of permutations stands in tables, made once: for each s_i the pairs of places of w and w s_i with w s_i
-//! longer, and for each place a shortest word.
+//! longer, and for each place a shortest word. So do the lengths and the places of the inverses.
 
 use crate::nested::inverse;
 use plain::element::{place, Group};
@@ -15,6 +15,8 @@ struct Lists {
     pairs: Vec<Vec<(u16, u16)>>,
     /// `longer[p]` has the places of the permutations whose word is that of place p and one letter i more, with i.
     longer: Vec<Vec<(u8, u16)>>,
+    /// `inverses[p]` has the length of the permutation at place p and the place of its inverse.
+    inverses: Vec<(u8, u16)>,
 }
 
 impl Lists {
@@ -32,7 +34,8 @@ impl Lists {
                 longer[place(&perm::of_word(m, rest))].push((i, p as u16));
             }
         }
-        Lists { words, pairs, longer }
+        let inverses = group.lengths.iter().zip(&group.inverses).map(|(&n, &p)| (n as u8, p as u16)).collect();
+        Lists { words, pairs, longer, inverses }
     }
 
     fn of_rank(m: usize) -> &'static Lists {
@@ -126,4 +129,15 @@ pub fn product_kept(m: usize, q: u64, left: &[u64], right: &[u64], result: &mut 
     result.fill(0);
     Lists::of_rank(m).collect(q, 0, right, result, &mut kept);
     scratch.fill(0);
+}
+
+/// The pairing of two elements of rank m, as its sum is written. The powers of q are made once.
+pub fn pairing(m: usize, q: u64, left: &[u64], right: &[u64]) -> u64 {
+    let mut powers = [1u64; 22];
+    for n in 1..=m * (m + 1) / 2 {
+        powers[n] = powers[n - 1].wrapping_mul(q);
+    }
+    left.iter().zip(&Lists::of_rank(m).inverses).fold(0, |sum: u64, (x, &(length, inverse))| {
+        sum.wrapping_add(powers[length as usize].wrapping_mul(*x).wrapping_mul(right[inverse as usize]))
+    })
 }

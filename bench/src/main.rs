@@ -6,6 +6,7 @@ mod clock;
 mod lists;
 mod nested;
 mod page;
+mod pairing;
 mod sheet;
 mod towers;
 mod tuned;
@@ -30,11 +31,12 @@ fn main() -> io::Result<()> {
             println!("{} cases: all contenders agree", rows.len());
         }
         [] => {
-            let (rows, all) = (cases::rows(true), cases::all_signs());
-            println!("{}\n{}\n{}", page::table(&rows), page::signs(&all), page::aims(&rows, &all));
+            let all = cases::measured();
+            let tables = [page::table(&all.rows), page::signs(&all.signs), page::shares(&all.shares), page::aims(&all)];
+            println!("{}", tables.join("\n"));
         }
         ["--write"] => {
-            let page = page::page(&cases::rows(true), &cases::all_signs());
+            let page = page::page(&cases::measured());
             print!("{page}");
             std::fs::write(Path::new(env!("CARGO_MANIFEST_DIR")).join("../docs/BENCHMARKS.md"), page)?;
         }

@@ -1,6 +1,6 @@
 //! The table of times, and the page that it stands on.
 
-use crate::cases::{Row, Signs};
+use crate::cases::{Both, Measured, Row};
 use crate::clock::Times;
 use std::fmt::Write;
 use std::process::Command;
@@ -9,7 +9,7 @@ const HEAD: &str = "\
 # Benchmarks
 
 The library's calls beside plain Rust and C, all in one run on one machine. `cargo run --release --offline -p bench -- --write`
-makes this page; without `--write` it prints the three tables, and with `--check` it compares all results and times nothing. With
+makes this page; without `--write` it prints the four tables, and with `--check` it compares all results and times nothing. With
 the variable HECKE_BEFORE set to the full path of an older `libhecke_c.a`, its products and words take part too, as `before`: for this
 page that of the landing before.
 ";
@@ -20,14 +20,17 @@ const TERMS: &str = "
 - **library**: the call through the wrapper `rust/hecke`, with all its checks. A sheet goes through the program `run_sheet`.
 - **(a)**: the same nested method in plain Rust, `bench/src/nested.rs`, with the machine's own wrapping multiplication. It has
   no case of its own for ranks 1 to 3, as the library has; this is why the library is the faster of the two. For towers,
-  plain Rust with the same checks, where larger images are counted in a mask of those seen, `bench/src/towers.rs`. For sheets,
-  the runner of `rust/plain` by this method.
+  plain Rust with the same checks, where larger images are counted in a mask of those seen, `bench/src/towers.rs`. For the
+  pairing, `bench/src/pairing.rs`: w and its inverse go down together through the ranks, so that the place of the inverse takes a
+  step for each w and no table. For sheets, the runner of `rust/plain` by this method.
 - **C**: the same nested method in C tuned by hand, `bench/c/nested.c`, with the library's cases of their own (letters in place;
   letters at ranks 1 to 3, and T_a(2,2) at rank 2; a right factor of rank 1) and with no checks. It is compiled by cc and by clang
-  with -O3 for any x86-64 processor, as the archive is; both take part, and the faster is shown. It has no signed letters.
+  with -O3 for any x86-64 processor, as the archive is; both take part, and the faster is shown. It has no signed letters. The
+  pairing, `bench/c/pairing.c`, goes as in (a).
 - **(b)**: formula 4.4 on plain lists, `bench/src/lists.rs`: each T_v acts through its whole word, as source document 000
   counts. The places of w and ws, and the words, are in tables made before the clock starts; `rust/plain`, written to be read,
-  makes words and lists anew for each v. For sheets (b) is `rust/plain` as it is, its tables timed.
+  makes words and lists anew for each v. For the pairing, its sum as document 02 writes it, with lengths and inverses in such tables.
+  For sheets (b) is `rust/plain` as it is, its tables timed.
 - **(c)**: formula 4.4 with h T_v kept for each beginning of a word, so that each T_v costs one letter: (7/2) M² operations,
   and m (m + 1) / 2 + 1 lists of M words beside the scratch.
 
@@ -36,8 +39,9 @@ on the same of eight random inputs; a time is the mean over a batch of calls, th
 brackets. Result slices hold what the call before left: nothing is cleared for a call. Every product clears the first (m + 6) M
 words of its scratch at its end, as document 01 asks, and this is timed. A word's element is copied from the input first, which
 is timed too. A signed word has an odd q and letters with random signs; the inverse of q, which the library counts as free, is
-found in each call and timed. In the table of letters both ways the library's two calls take turns on the same letters. A sheet
-is one process: its start and both pipes are timed. Ratios are those of the least times.
+found in each call and timed. In the table of letters both ways the library's two calls take turns on the same letters, and in that
+of the pairing on the same elements. A sheet is one process: its start and both pipes are timed. Ratios are those of the least
+times.
 
 Towers: of one point nothing is converted, and these rows are what a call costs by itself, its checks and its returned word. Up
 to 8 points it is a large part of the time, and the ratios there change with the layout of both programs: builds before this
@@ -77,6 +81,15 @@ fn time(times: Option<&Times>) -> String {
     format!("{:.1} ({:.1}) {name}", times.least / unit, times.median / unit)
 }
 
+/// A ratio with two decimals, or four below a tenth.
+fn decimals(ratio: f64) -> String {
+    if ratio < 0.1 {
+        format!("{ratio:.4}")
+    } else {
+        format!("{ratio:.2}")
+    }
+}
+
 /// The columns of times; the last is there where an older archive is.
 const CONTENDERS: &[&str] = &[
     "library",
@@ -112,7 +125,7 @@ impl Row {
 
     fn line(&self) -> String {
         let times = CONTENDERS.iter().map(|name| time(self.of(name)));
-        let ratio = |ratio: Option<f64>| ratio.map_or("–".to_string(), |ratio| format!("{ratio:.2}"));
+        let ratio = |ratio: Option<f64>| ratio.map_or("–".to_string(), decimals);
         let ratios = RATIOS.iter().map(|(upper, lower)| ratio(self.ratio(upper, lower)));
         joined([self.call.to_string(), self.size.clone()].into_iter().chain(times).chain(ratios))
     }
@@ -132,49 +145,70 @@ pub fn table(rows: &[Row]) -> String {
     format!("{}{rule}|\n{lines}", joined(heads))
 }
 
-/// The table of signed letters beside plain ones.
-pub fn signs(all: &[Signs]) -> String {
-    let mut text = String::from("| size | 100 signed letters | 100 plain letters | signed / plain |\n|---|---|---|---|\n");
-    for Signs { m, signed, plain } in all {
-        let ratio = signed.least / plain.least;
-        writeln!(text, "| rank {m} | {} | {} | {ratio:.2} |", time(Some(signed)), time(Some(plain))).unwrap();
+impl Both {
+    /// The ratio of the least times.
+    fn ratio(&self) -> f64 {
+        self.one.least / self.other.least
+    }
+}
+
+/// A table of two calls, with the heads of its columns of times and of ratios.
+fn both(heads: [&str; 3], all: &[Both]) -> String {
+    let mut text = format!("| size | {} |\n|---|---|---|---|\n", heads.join(" | "));
+    for both in all {
+        let (one, other) = (time(Some(&both.one)), time(Some(&both.other)));
+        writeln!(text, "| rank {} | {one} | {other} | {} |", both.m, decimals(both.ratio())).unwrap();
     }
     text
 }
 
-/// The aims, with what was measured and whether it holds.
-pub fn aims(rows: &[Row], all: &[Signs]) -> String {
+/// The table of signed letters beside plain ones.
+pub fn signs(all: &[Both]) -> String {
+    both(["100 signed letters", "100 plain letters", "signed / plain"], all)
+}
+
+/// The table of the pairing beside the product.
+pub fn shares(all: &[Both]) -> String {
+    both(["pairing", "product", "pairing / product"], all)
+}
+
+/// The aims, each with what was measured and whether it holds.
+fn judged(all: &Measured) -> Vec<(&'static str, f64, bool)> {
+    let row = |call: &str, size: &str| all.rows.iter().find(|row| (row.call, row.size.as_str()) == (call, size)).unwrap();
     let largest = |call: &str, lower: &str| {
-        let ratios = rows.iter().filter(|row| row.call == call).filter_map(|row| row.ratio("library", lower));
+        let ratios = all.rows.iter().filter(|row| row.call == call).filter_map(|row| row.ratio("library", lower));
         ratios.fold(0.0, f64::max)
     };
-    let product = rows.iter().find(|row| (row.call, row.size.as_str()) == ("product", "rank 6")).unwrap();
+    let product = row("product", "rank 6");
     let (same, lists) = (product.ratio("library", "(a)").unwrap(), product.ratio("(b)", "library").unwrap());
     let (to_tower, to_images) = (largest("image list to tower", "(a)"), largest("tower to image list", "(a)"));
+    let beside_c = |size: &str| row("product", size).ratio("library", "C").unwrap();
+    let (three, high) = (beside_c("rank 3"), beside_c("rank 5").max(beside_c("rank 6")));
+    let signed = all.signs.iter().map(Both::ratio).fold(0.0, f64::max);
+    let share = all.shares.iter().find(|both| both.m == 5).unwrap().ratio();
     let mut aims = vec![
         ("product of rank 6: library / (a) at most 1.5", same, same <= 1.5),
         ("product of rank 6: (b) / library at least 2", lists, lists >= 2.0),
         ("image list to tower: library / (a) at most 1.5 at each size", to_tower, to_tower <= 1.5),
         ("tower to image list: library / (a) at most 1.5 at each size", to_images, to_images <= 1.5),
+        ("product of rank 3: library / C at most 1.15", three, three <= 1.15),
+        ("product of ranks 5 and 6: library / C at most 1.03", high, high <= 1.03),
+        ("signed / plain letters at most 1.05 at ranks 3 to 6", signed, signed <= 1.05),
+        ("pairing / product below 0.1 at rank 5", share, share < 0.1),
     ];
-    let beside_c = |size: &str| {
-        let row = rows.iter().find(|row| (row.call, row.size.as_str()) == ("product", size)).unwrap();
-        row.ratio("library", "C").unwrap()
-    };
-    let (three, high) = (beside_c("rank 3"), beside_c("rank 5").max(beside_c("rank 6")));
-    aims.push(("product of rank 3: library / C at most 1.15", three, three <= 1.15));
-    aims.push(("product of ranks 5 and 6: library / C at most 1.03", high, high <= 1.03));
-    let both_ways = all.iter().filter(|signs| (3..=6).contains(&signs.m));
-    let signed = both_ways.map(|signs| signs.signed.least / signs.plain.least).fold(0.0, f64::max);
-    aims.push(("signed / plain letters at most 1.05 at ranks 3 to 6", signed, signed <= 1.05));
     if cfg!(before) {
         let (product, word) = (largest("product", "before"), largest("word of 100 letters", "before"));
         aims.push(("product: library / before at most 1.02 at each rank", product, product <= 1.02));
         aims.push(("word of 100 letters: library / before at most 1.02 at each rank", word, word <= 1.02));
     }
+    aims
+}
+
+/// The table of the aims.
+pub fn aims(all: &Measured) -> String {
     let mut text = String::from("| aim | measured | holds |\n|---|---|---|\n");
-    for (aim, measured, holds) in aims {
-        writeln!(text, "| {aim} | {measured:.2} | {} |", if holds { "yes" } else { "no" }).unwrap();
+    for (aim, measured, holds) in judged(all) {
+        writeln!(text, "| {aim} | {} | {} |", decimals(measured), if holds { "yes" } else { "no" }).unwrap();
     }
     text
 }
@@ -197,7 +231,13 @@ fn machine() -> String {
 }
 
 /// The whole page.
-pub fn page(rows: &[Row], all: &[Signs]) -> String {
-    let (machine, times, signs, aims) = (machine(), table(rows), signs(all), aims(rows, all));
-    format!("{HEAD}\n{machine}\n## Times\n\n{times}\n## Letters both ways\n\n{signs}\n## Aims\n\n{aims}{TERMS}")
+pub fn page(all: &Measured) -> String {
+    let parts = [
+        ("Times", table(&all.rows)),
+        ("Letters both ways", signs(&all.signs)),
+        ("The pairing beside the product", shares(&all.shares)),
+        ("Aims", aims(all)),
+    ];
+    let tables = parts.map(|(title, table)| format!("\n## {title}\n\n{table}")).concat();
+    format!("{HEAD}\n{}{tables}{TERMS}", machine())
 }

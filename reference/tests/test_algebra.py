@@ -1,7 +1,8 @@
-"""Document 01's sections "Elements and their product" and "The count": cases, edges, and the two methods; inverse letters."""
+"""Document 01's sections "Elements and their product" and "The count": cases, edges, and the two methods; document 02's inverse
+letters and pairing."""
 import random
 import unittest
-from math import factorial
+from math import factorial, prod
 
 from reference import algebra as a
 from reference import permutations as p
@@ -24,6 +25,11 @@ class Cases(unittest.TestCase):
                 (2, 2, [2, 1], [0, 0, 0, 2, 0, 1]), (1, 0, [1], [0, 2 ** 64 - 1]), (1, 1, [1], [1, 0])):
             h = word_basis(m, word)
             self.assertEqual(a.product(m, q, h, h), square)
+
+    def test_marked_pairings(self):
+        """Document 02, Ticket 2: at rank 2 with q = 2, T of s_1 s_2 paired with itself, and with T of s_2 s_1."""
+        h, g = word_basis(2, [1, 2]), word_basis(2, [2, 1])
+        self.assertEqual((a.pairing(2, 2, h, h), a.pairing(2, 2, h, g)), (0, 4))
 
     def test_counts(self):
         self.assertEqual([a.product_count(m, m) for m in range(7)], [1, 9, 118, 2152, 55840, 2027640, 99518160])
@@ -144,14 +150,49 @@ class Laws(unittest.TestCase):
                 self.assertEqual(a.act(3, q, h, x), a.act(3, q, h, y))
                 self.assertEqual(a.act(3, q, h, x), a.product(3, q, h, word_basis(3, x)))
 
+
+
+class Pairings(unittest.TestCase):
     def test_pairing(self):
-        """The pairing of a with b is the coefficient of the unit in the product of a with b read through inverses."""
+        """The pairing is the coefficient of the unit in the product."""
         source = random.Random(9)
+        for m in range(6):
+            for q in (*PARAMETERS, 2 ** 63, source.randrange(0, a.WORD, 2), source.randrange(1, a.WORD, 2)):
+                h, g = random_element(source, m), random_element(source, m)
+                self.assertEqual(a.pairing(m, q, h, g), a.product(m, q, h, g)[0])
+
+    def test_basis_elements(self):
+        """T_u paired with T_v is q to the power l(u) where v is the inverse of u, else 0."""
+        for m in range(4):
+            for u in a.permutations(m):
+                for v in a.permutations(m):
+                    for q in PARAMETERS:
+                        due = pow(q, p.length(u), a.WORD) if p.product(u, v) == p.identity(m) else 0
+                        self.assertEqual(a.pairing(m, q, a.basis(u), a.basis(v)), due)
+
+    def test_reversed_chains(self):
+        """A shortest word paired with itself read backwards, and with itself unless the permutation is an involution."""
+        for m in range(6):
+            for w in random.Random(16).sample(a.permutations(m), min(a.size(m), 40)):
+                word = p.standard_word(p.tower(w))
+                h, g = word_basis(m, word), word_basis(m, word[::-1])
+                self.assertEqual(a.pairing(m, 3, h, g), 3 ** len(word))
+                self.assertEqual(a.pairing(m, 3, h, h), 3 ** len(word) if p.inverse(w) == w else 0)
+
+    def test_either_side_of_a_product(self):
+        source = random.Random(17)
         for m in range(4):
             for q in PARAMETERS:
-                h, g = random_element(source, m), random_element(source, m)
-                turned = [g[a.place(p.inverse(w))] for w in a.permutations(m)]
-                self.assertEqual(a.pairing(m, q, h, g), a.product(m, q, h, turned)[0])
+                h, g, k = (random_element(source, m) for _ in range(3))
+                self.assertEqual(a.pairing(m, q, a.product(m, q, h, g), k), a.pairing(m, q, h, a.product(m, q, g, k)))
+
+    def test_sum_over_all_permutations(self):
+        """Of elements of ones: the sum of the powers of q by length, which is the product of 1 + q + .. + q^j for j = 1 to m."""
+        for m in range(7):
+            ones = [1] * a.size(m)
+            for q in PARAMETERS:
+                due = prod(sum(q ** i for i in range(j + 1)) for j in range(1, m + 1)) % a.WORD
+                self.assertEqual(a.pairing(m, q, ones, ones), due)
 
 
 class Inverses(unittest.TestCase):
@@ -236,11 +277,13 @@ class Calls(unittest.TestCase):
         self.assertEqual((result, scratch), (a.product(2, 3, h, g), [0] * 48 + [9] * 2))
         self.assertEqual(a.call_act(2, 3, h, [1, 1, 2]), 27)
         self.assertEqual(h, a.act(2, 3, [1, 2, 3, 4, 5, a.WORD - 1], [1, 1, 2]))
+        self.assertEqual(a.call_pairing(2, 3, [1, 2, 3, 4, 5, 6], g), 6 + 3 * (10 + 12) + 9 * (4 * 2 + 5 * 3) + 27 * 6)
 
     def test_rank_0(self):
         h, result = [5], [9]
         self.assertEqual(a.call_act(0, 3, h, []), 0)
         self.assertEqual((a.call_product(0, 3, h, [7], result, [9] * 6), result), (1, [35]))
+        self.assertEqual(a.call_pairing(0, 3, h, [7]), 35)
 
     def test_rank_6(self):
         size = a.size(6)
@@ -249,6 +292,7 @@ class Calls(unittest.TestCase):
         self.assertEqual(a.call_sum(6, h, h, result), size)
         self.assertEqual(a.call_product(6, 3, h, a.unit(6), result, scratch), 99518160)
         self.assertEqual((result, scratch), (h, [0] * (12 * size)))
+        self.assertEqual(a.call_pairing(6, 3, h, a.unit(6)), h[0])
 
     def test_4096_letters(self):
         h = [1, 0]
@@ -267,6 +311,9 @@ class Refusals(unittest.TestCase):
                 a.call_act(m, 0, h, [0])
             with refused(self, 1, 0, h):
                 a.call_product(m, 0, [], [], h, [])
+            for lists in (([], []), ([9], [9]), ([9] * 5040, [9] * 5041)):
+                with refused(self, 1, 0, *lists):
+                    a.call_pairing(m, 0, *lists)
 
     def test_2_element(self):
         for wrong in ([], [1], [1] * 3):
@@ -283,6 +330,9 @@ class Refusals(unittest.TestCase):
                 a.call_scale(1, 3, wrong, result)
             with refused(self, 2, 0, wrong):
                 a.call_act(1, 3, wrong, [0])
+            for lists in ((wrong, [3, 4]), ([1, 2], wrong), (wrong, wrong), (wrong, [9] * 4)):
+                with refused(self, 2, 0, *lists):
+                    a.call_pairing(1, 3, *lists)
 
     def test_3_scratch(self):
         for m, short in ((0, 5), (1, 13), (2, 47)):

@@ -9,9 +9,10 @@ from itertools import product
 from math import factorial
 from pathlib import Path
 from time import monotonic
+from unittest.mock import patch
 
 from reference import sheet as s
-from reference.algebra import WORD, mirror, size
+from reference.algebra import WORD, lengths_and_inverses, mirror, size
 from reference.conformance import PARAMETERS, strangers
 from reference.refusals import Refused
 from reference.sheet_cases import END, EXAMPLE, command
@@ -30,6 +31,9 @@ DOCUMENT = {
     'square_of_t_1_at_q_0': 'H 1 0\nR 0\n1 18446744073709551615\nN 6\n',
     'square_of_t_1_at_q_1': 'H 1 1\nR 0\n0 1\nN 6\n',
 } | {f'count_of_a_product_rank_{m}': f'H {m} 3\nN {count}\n' for m, count in enumerate((1, 9, 118, 2152, 55840, 2027640))}
+
+# document 02, Ticket 2: T of s_1 s_2 paired with itself, and with T of s_2 s_1
+PAIRINGS = {'pairing_of_s_1_s_2_with_itself_and_with_s_2_s_1_at_q_2': 'H 2 2\nP 0\nP 4\nN 0\n'}
 
 
 def commands_of(sheet):
@@ -106,6 +110,7 @@ class Files(Kit):
 
     def test_document(self):
         self.assertEqual({name: self.texts[f'document_{name}'] for name in DOCUMENT}, DOCUMENT)
+        self.assertEqual({name: self.texts[name] for name in PAIRINGS}, PAIRINGS)
 
     def test_refusals_are_those_of_the_names_and_of_the_table(self):
         for name, found in self.faults.items():
@@ -202,6 +207,45 @@ class Commands(Kit):
     def test_a_count_over_many_commands(self):
         codes = [Counter(one.code for one in commands) for commands in self.valid.values()]
         self.assertTrue(any(min(number[code] for code in (s.LETTER, s.PRODUCT, s.SUM, s.SCALE)) >= 100 for number in codes))
+
+
+class Pairings(Kit):
+    def told(self, changed, ranks=RANKS):
+        """The rank and q of each sheet whose text is another where lengths and inverses are changed: a list of a length and a place
+        for each w becomes another."""
+        found = set()
+        for name, commands in self.valid.items():
+            m, q = commands[0].operands.values()
+            if m in ranks and any(one.code == s.PAIR for one in commands):
+                with patch('reference.algebra.lengths_and_inverses', lambda m: changed(lengths_and_inverses(m))):
+                    if s.printed(self.sheets[name]) != self.texts[name]:
+                        found.add((m, q))
+        return found
+
+    def test_the_inverse_is_told_from_the_permutation(self):
+        """At each rank that has other permutations than involutions; at each q, unless q to the power 2 is 0."""
+        told = self.told(lambda table: [(n, w) for w, (n, _) in enumerate(table)])
+        self.assertEqual({m for m, _ in told}, set(RANKS[2:]))
+        self.assertLessEqual({q for q in PARAMETERS.values() if q * q % WORD}, {q for _, q in told})
+
+    def test_the_power_of_q_is_told_from_1(self):
+        self.assertEqual({m for m, _ in self.told(lambda table: [(0, v) for _, v in table])}, set(RANKS[1:]))
+
+    def test_each_permutation_of_rank_3_is_told(self):
+        """One length more, and the next place in the place of the inverse's, for one w."""
+        for w, (n, v) in enumerate(lengths_and_inverses(3)):
+            for wrong in ((n + 1, v), (n, (v + 1) % size(3))):
+                self.assertTrue(self.told(lambda table: table[:w] + [wrong] + table[w + 1:], [3]), (w, wrong))
+
+    def test_beside_the_product_at_each_rank(self):
+        """A pairing, the product of the same registers, and its pairing with the unit: two equal lines."""
+        found = set()
+        for name, commands in self.valid.items():
+            if [one.code for one in commands[-5:]] == [s.PAIR, s.PRODUCT, s.UNIT, s.PAIR, s.END]:
+                paired, beside = (line for line in self.texts[name].splitlines() if line[0] == 'P')
+                self.assertEqual(paired, beside)
+                found.add(commands[0].operands['m'])
+        self.assertEqual(found, set(RANKS))
 
 
 class Edges(Kit):

@@ -92,7 +92,15 @@ class Commands(unittest.TestCase):
 
     def test_pairing_and_equality(self):
         sheet = begin(2, 2) + put(0, 3, 1) + put(1, 4, 1) + bytes([0x41, 0, 0, 0x41, 0, 1, 0x42, 0, 1, 0x42, 2, 3]) + END
-        self.assertEqual(s.printed(sheet), 'H 2 2\nP 4\nP 0\nQ 0\nQ 1\nN 0\n')
+        self.assertEqual(s.printed(sheet), 'H 2 2\nP 0\nP 4\nQ 0\nQ 1\nN 0\n')
+
+    def test_pairing_is_the_coefficient_of_the_unit_in_the_product(self):
+        """T_1 T_2 T_2 = 2 T_{s_1 s_2} + 3 T_1 with q = 3, and the word read backwards gives 2 T_{s_2 s_1} + 3 T_1: the two are paired,
+        and their product is paired with the unit."""
+        there, back = bytes([0x20, 0, 0x30, 0, 1, 0x30, 0, 2, 0x30, 0, 2]), bytes([0x20, 1, 0x30, 1, 2, 0x30, 1, 2, 0x30, 1, 1])
+        sheet = begin(2, 3) + there + back + bytes([0x41, 0, 1, 0x31, 2, 0, 1, 0x20, 3, 0x41, 2, 3]) + END
+        due = 9 * 2 * 2 + 3 * 3 * 3
+        self.assertEqual(s.printed(sheet), f'H 2 3\nP {due}\nP {due}\nN {6 * 9 + 118}\n')
 
     def test_unit_and_put_are_not_counted(self):
         self.assertEqual(s.run(begin(3, 2) + bytes([0x20, 0]) + put(1, 2, 3) + END).count, 0)

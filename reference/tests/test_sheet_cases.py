@@ -2,9 +2,10 @@
 import unittest
 
 from pathlib import Path
+from unittest.mock import patch
 
 from reference import sheet as s
-from reference.algebra import WORD, size
+from reference.algebra import WORD, lengths_and_inverses, size
 from reference.refusals import Refused
 from reference.sheet_cases import END, cases, command, products_of_rank_5, short
 
@@ -63,6 +64,18 @@ class Cases(unittest.TestCase):
         found = {(sheet[2], x) for sheet, x in refused if sheet[10:12] == command(s.UNIT, 0) and 0x34 in sheet[12:]}
         self.assertLessEqual({(2, 11), (2, 13), (2, 14), (2, 15), (3, 10), (3, 11), (3, 12), (3, 13), (3, 14)}, found)
         self.assertNotIn((3, 15), found)
+
+    def test_pairings_tell_the_inverse_from_the_permutation(self):
+        """At every rank that has other permutations than involutions: a pairing that its product's pairing with the unit confirms,
+        and that is another where each permutation is taken for its inverse."""
+        for rank in range(s.MOST_RANK + 1):
+            begin, last = command(s.BEGIN, rank, 3), command(s.UNIT, 3) + command(s.PAIR, 2, 3) + END
+            [sheet] = [x for x in self.sheets if x.startswith(begin) and x.endswith(last)]
+            texts = [line for line in s.printed(sheet).splitlines() if line[0] == 'P']
+            self.assertEqual(texts[0], texts[-1])
+            itself = [(n, w) for w, (n, _) in enumerate(lengths_and_inverses(rank))]
+            with patch('reference.algebra.lengths_and_inverses', lambda m: itself):
+                self.assertEqual(s.printed(sheet).splitlines()[1] == texts[0], rank < 2)
 
     def test_operands_at_and_past_their_bounds(self):
         for rank in range(s.MOST_RANK + 1):

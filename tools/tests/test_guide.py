@@ -7,7 +7,7 @@ import unittest
 from itertools import count
 from pathlib import Path
 
-from reference.algebra import letter_count, permutations, product_count, size
+from reference.algebra import letter_count, lengths_and_inverses, pairing, permutations, product_count, size
 from reference.permutations import standard_word, tower
 from reference.sheet import MOST_BYTES, OPERANDS, check, printed
 from tools.alexander import described, image, shown, value
@@ -99,6 +99,16 @@ class Tables(unittest.TestCase):
         rest = to_bytes('begin 5 3\nunit 0\nshow 0\nend')
         letters = (MOST_BYTES - len(rest)) // len(to_bytes('letter 0 1'))
         self.assertIn(f'so {letters:,} letters of either kind fit beside `begin`, `unit`, `show` and `end`', sentences)
+
+    def test_pairings(self):
+        """The pairing worked by hand, which is the same both ways, and the indexes of rank 2 that change places."""
+        sentences = ' '.join(GUIDE.split())
+        self.assertIn(f'2 · 4 + 5 · 7 · 3 = {pairing(1, 3, [2, 5], [4, 7])} at index 0', sentences)
+        self.assertIn('`pair 0 1` and `pair 1 0` give the same number.', sentences)
+        sheet = to_bytes('begin 2 3\nset 0 s1 4\nset 0 s1s2 5\nset 1 s1 7\nset 1 s2s1 8\npair 0 1\npair 1 0\nend')
+        self.assertEqual(printed(sheet).splitlines()[1:3], [f'P {3 * 4 * 7 + 9 * 5 * 8}'] * 2)
+        first, second = (w for w, (_, v) in enumerate(lengths_and_inverses(2)) if v != w)
+        self.assertIn(f'At rank 2 only the indexes {first} and {second}, of s1s2 and s2s1, change places', sentences)
 
     def test_one_braid_in_other_letters(self):
         self.assertIn('`1 2 1` and `2 1 2` are the same braid', ' '.join(GUIDE.split()))

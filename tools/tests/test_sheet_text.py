@@ -127,6 +127,11 @@ class ToBytes(unittest.TestCase):
             word = ''.join(f's{i}' for i in standard_word(tower(w)))
             self.assertEqual(to_bytes(f'set 0 {word} 7'), to_bytes(f'set 0 {index} 7'))
 
+    def test_pairing_of_a_word_and_the_word_backwards(self):
+        """Document 02, Ticket 2: T of s_1 s_2 paired with itself, and with T of s_2 s_1."""
+        sheet = to_bytes('begin 2 2\nset 0 s1s2 1\nset 1 s2s1 1\npair 0 0\npair 0 1\nend')
+        self.assertEqual(printed(sheet), 'H 2 2\nP 0\nP 4\nN 0\n')
+
     def test_bad_lines(self):
         for line, wrong in BAD_LINES:
             with self.subTest(line=line), self.assertRaises(ValueError) as caught:

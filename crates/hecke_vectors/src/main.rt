@@ -1,14 +1,15 @@
-// Reads calls of `hecke`, runs them, and writes a line for each: the call's answer and then what its slices hold.
+// Reads calls on elements, runs them, and writes a line for each: the call's answer and then what its slices hold.
 // The stored input and output are made by the reference program.
 //
-// A call is a byte: 1 for sum, 2 for scaling, 3 for the action of a word, 5 for that of a word of signed letters, and any other
-// for a product; the rank in a byte; the word q or c; two lists of words; the word of letters; and the sizes of the lent result
-// and scratch. A list is its size and then its words, or letters. A size is two bytes, a word eight, the lowest byte first; a
-// signed letter is a byte by two's complement. A word action changes the first list. Each word of the result and the scratch
-// is 170 before the call.
+// A call is a byte: 1 for sum, 2 for scaling, 3 for the action of a word, 5 for that of a word of signed letters, 6 for a pairing,
+// and any other for a product; the rank in a byte; the word q or c; two lists of words; the word of letters; and the sizes of the
+// lent result and scratch. A list is its size and then its words, or letters. A size is two bytes, a word eight, the lowest byte
+// first; a signed letter is a byte by two's complement. A word action changes the first list, and a pairing nothing. Each word of
+// the result and the scratch is 170 before the call.
 //
-// A line is A and the count, or E with the number, the place and the count of the refusal, which is 0; then the slice that the
-// call writes; for a product also the digest of the scratch. A slice of over 120 words is written as its digest.
+// A line is A and the count, or the value of a pairing, or E with the number, the place and the count or value of the refusal,
+// which is 0; then the slice that the call writes; for a product also the digest of the scratch. A slice of over 120 words is
+// written as its digest.
 //
 // The program ends where the input does. It also ends, with no line, at a call that is cut off, and at one with more than 5,041
 // words in a list or the result, 4,097 letters or 60,500 words of scratch.
@@ -151,6 +152,13 @@ fn run_product(
     print_field(digest(scratch));
 }
 
+fn run_pairing(m: usize, q: u64, left: &[u64], right: &[u64]) {
+    let answer = pairings::pairing(m, q, left, right);
+    let verdict = answer.verdict;
+    print_verdict(verdict);
+    print_field(answer.value);
+}
+
 fn run(
     call: u8,
     m: usize,
@@ -166,6 +174,7 @@ fn run(
         2 => run_scale(m, q, left, result),
         3 => run_word(m, q, word, left),
         5 => run_signed_word(m, q, word, left),
+        6 => run_pairing(m, q, left, right),
         _ => run_product(m, q, left, right, result, scratch),
     }
 }

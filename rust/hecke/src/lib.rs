@@ -237,6 +237,27 @@ pub fn product(m: usize, q: u64, left: &[u64], right: &[u64], result: &mut [u64]
     .map(|[count]| count)
 }
 
+/// The pairing of two elements of rank m: the coefficient of the unit in their product, which is the sum over w of q^ℓ(w) times
+/// `left` at w times `right` at the inverse of w. It counts no ring operation.
+///
+/// ```
+/// assert_eq!(hecke::pairing(1, 3, &[0, 1], &[0, 1]), Ok(3));
+///
+/// // rank 2 with q = 2: T of s_1 s_2, at index 3, with itself, and with T of s_2 s_1, at index 4
+/// let (chain, reversed) = ([0, 0, 0, 1, 0, 0], [0, 0, 0, 0, 1, 0]);
+/// assert_eq!(hecke::pairing(2, 2, &chain, &chain), Ok(0));
+/// assert_eq!(hecke::pairing(2, 2, &chain, &reversed), Ok(4));
+///
+/// let short = hecke::pairing(2, 2, &chain, &reversed[1..]);
+/// assert_eq!(short, Err(hecke::Refusal { number: 2, place: 0 }));
+/// ```
+pub fn pairing(m: usize, q: u64, left: &[u64], right: &[u64]) -> Result<u64, Refusal> {
+    answered(|answer, room| unsafe {
+        raw::hecke_pairing(m, q, left.as_ptr(), left.len(), right.as_ptr(), right.len(), answer, room)
+    })
+    .map(|[value]| value)
+}
+
 /// The check of a whole run sheet.
 ///
 /// ```

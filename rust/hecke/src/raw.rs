@@ -93,6 +93,17 @@ extern "C" {
         answer_len: usize,
     ) -> u64;
 
+    pub fn hecke_pairing(
+        m: usize,
+        q: u64,
+        left: *const u64,
+        left_len: usize,
+        right: *const u64,
+        right_len: usize,
+        answer: *mut u64,
+        answer_len: usize,
+    ) -> u64;
+
     pub fn hecke_sheet_check(sheet: *const u8, sheet_len: usize) -> u64;
 
     pub fn hecke_run_sheet(

@@ -1,5 +1,6 @@
 //! Elements of the Iwahori-Hecke algebra and their product by the plain-list method (document 01, "Elements and their product";
-//! formulas 3.1 and 4.1 to 4.4 of source document 000), over permutations and never over towers.
+//! formulas 3.1 and 4.1 to 4.4 of source document 000), over permutations and never over towers; inverse letters and the pairing
+//! (document 02, Tickets 1 and 2).
 
 use crate::{count, perm, refuse, refuse_first, Refusal};
 use std::mem::swap;
@@ -16,6 +17,8 @@ struct Step {
 pub struct Group {
     pub permutations: Vec<Vec<u8>>,
     pub lengths: Vec<u64>,
+    /// The places of the inverses.
+    pub inverses: Vec<usize>,
     /// `steps[i - 1][p]` leads from the permutation at place p by s_i.
     steps: Vec<Vec<Step>>,
 }
@@ -66,7 +69,9 @@ impl Group {
         };
         let by = |i: u8| permutations.iter().map(|w| step(w, &perm::generator(m, i))).collect();
         let steps = (1..=m as u8).map(by).collect();
-        Group { lengths: permutations.iter().map(|w| perm::length(w)).collect(), permutations, steps }
+        let lengths = permutations.iter().map(|w| perm::length(w)).collect();
+        let inverses = permutations.iter().map(|w| place(&perm::inverse(w))).collect();
+        Group { permutations, lengths, inverses, steps }
     }
 
     /// The permutations of rank m, up to 6; made once.
@@ -128,6 +133,14 @@ impl Group {
         }
         sum
     }
+
+    /// The pairing, the coefficient of the unit in the product: the sum over all w of q^ℓ(w) h_w times g at the inverse of w.
+    pub fn pairing(&self, q: u64, h: &[u64], g: &[u64]) -> u64 {
+        let places = self.lengths.iter().zip(&self.inverses);
+        h.iter().zip(places).fold(0, |sum: u64, (x, (&length, &inverse))| {
+            sum.wrapping_add(q.wrapping_pow(length as u32).wrapping_mul(*x).wrapping_mul(g[inverse]))
+        })
+    }
 }
 
 /// Refuses a rank above 6, then an element that is not M words; else answers M.
@@ -185,6 +198,12 @@ pub fn product(m: usize, q: u64, left: &[u64], right: &[u64], result: &mut [u64]
     Ok(count::of_product(m))
 }
 
+/// The pairing of two elements.
+pub fn pairing(m: usize, q: u64, left: &[u64], right: &[u64]) -> Result<u64, Refusal> {
+    check_sizes(m, &[left.len(), right.len()])?;
+    Ok(Group::of_rank(m).pairing(q, left, right))
+}
+
 #[cfg(test)]
 mod tests {
     use super::*;
@@ -240,6 +259,37 @@ mod tests {
         assert_eq!(act_signed_word(2, 2, &[1, -1, -2], &mut element), refused(15, 1));
         assert_eq!(act_signed_word(2, 2, &[1, 2], &mut element), Ok(18));
         assert_eq!(act_signed_word(2, 3, &[1, -1, -2], &mut element), Ok(27));
+    }
+
+    /// Document 02's cases: T of s_1 s_2 paired with itself, and with T of s_2 s_1.
+    #[test]
+    fn pairings() {
+        let (h, g) = ([0, 0, 0, 1, 0, 0], [0, 0, 0, 0, 1, 0]);
+        assert_eq!(pairing(2, 2, &h, &h), Ok(0));
+        assert_eq!(pairing(2, 2, &h, &g), Ok(4));
+        assert_eq!(pairing(2, 2, &g, &h), Ok(4));
+        assert_eq!(pairing(1, 3, &[2, 5], &[4, 7]), Ok(2 * 4 + 3 * 5 * 7));
+    }
+
+    /// The pairing is the coefficient of the unit in the product, for words of all sizes.
+    #[test]
+    fn pairings_by_products() {
+        let words = |size, seed: u64| (1..).map(move |i: u64| i.wrapping_mul(seed).rotate_left(i as u32)).take(size);
+        for (m, q) in (0..=4).flat_map(|m| [0, 1, 2, 3, 10, 1 << 63, u64::MAX].map(|q| (m, q))) {
+            let (h, g) = (words(size(m), 0x9e37_79b9_7f4a_7c15), words(size(m), 0x5851_f42d_4c95_7f2d));
+            let (h, g): (Vec<u64>, Vec<u64>) = (h.collect(), g.collect());
+            assert_eq!(pairing(m, q, &h, &g), Ok(Group::of_rank(m).times(q, &h, &g)[0]));
+        }
+    }
+
+    #[test]
+    fn refused_pairings() {
+        let refused = |number| Err(Refusal { number, place: 0 });
+        assert_eq!(pairing(7, 2, &[1; 6], &[1; 5]), refused(1));
+        assert_eq!(pairing(usize::MAX, 2, &[], &[]), refused(1));
+        for (left, right) in [(5, 6), (6, 5), (6, 7), (7, 6), (0, 6), (6, 0), (5, 7), (0, 0)] {
+            assert_eq!(pairing(2, 2, &vec![1; left], &vec![1; right]), refused(2));
+        }
     }
 
     /// Each word of the group's own gives the permutation that it is for, and is as long.

@@ -1,15 +1,15 @@
-//! Document 01 and the first request of document 02 in plain Rust: an implementation that shares no code with the library, to
-//! compare the library with.
+//! Document 01 and the first two requests of document 02 in plain Rust: an implementation that shares no code with the library,
+//! to compare the library with.
 //!
 //! The functions named here have the library's signatures. Each judges what it is given in the order of document 01's table and
-//! of that request, and writes only when nothing is refused. The modules also have the mathematics by itself, with no checks.
+//! of those requests, and writes only when nothing is refused. The modules also have the mathematics by itself, with no checks.
 
 pub mod count;
 pub mod element;
 pub mod perm;
 pub mod sheet;
 
-pub use element::{act_signed_word, act_word, product, scale, sum};
+pub use element::{act_signed_word, act_word, pairing, product, scale, sum};
 pub use perm::{images_of_tower, tower_descents, tower_inverse, tower_length, tower_of_images, tower_product, tower_word};
 pub use sheet::{check as sheet_check, run as run_sheet};
 

@@ -1,4 +1,5 @@
-//! Run sheets: the check of a whole sheet, its run, and what the program prints (document 01, "Run sheets").
+//! Run sheets: the check of a whole sheet, its run, and what the program prints (document 01, "Run sheets"; document 02, Tickets 1
+//! and 2).
 
 use crate::element::{inverse, size, undone, Group};
 use crate::{count, refuse, Refusal};
@@ -202,12 +203,9 @@ impl Run {
         }
     }
 
-    /// The sum over w of q to the power ℓ(w) times a_w times b_w.
+    /// The pairing of two registers.
     fn pairing(&self, a: usize, b: usize) -> u64 {
-        let terms = self.pairs(a, b).zip(&Group::of_rank(self.m).lengths);
-        terms.fold(0, |sum: u64, ((x, y), &length)| {
-            sum.wrapping_add(self.q.wrapping_pow(length as u32).wrapping_mul(x).wrapping_mul(y))
-        })
+        Group::of_rank(self.m).pairing(self.q, &self.registers[a], &self.registers[b])
     }
 }
 
@@ -275,6 +273,15 @@ mod tests {
         assert_eq!(printed(&sheet), b"E 15 15\n");
         sheet[17] = 2;
         assert_eq!(printed(&sheet), b"E 13 15\n");
+    }
+
+    /// Document 02's cases at rank 2 with q = 2: the chain s_1 s_2 paired with itself, and with the reversed chain.
+    #[test]
+    fn pairings() {
+        let begin = [0x10, 2, 2, 0, 0, 0, 0, 0, 0, 0];
+        let chains = [0x20, 0, 0x30, 0, 1, 0x30, 0, 2, 0x20, 1, 0x30, 1, 2, 0x30, 1, 1];
+        let sheet = [&begin[..], &chains, &[0x41, 0, 0, 0x41, 0, 1, 0]].concat();
+        assert_eq!(printed(&sheet), b"H 2 2\nP 0\nP 4\nN 36\n");
     }
 
     #[test]

@@ -204,3 +204,17 @@ pub fn product(random: &mut Random, factors: Factors, room: usize, scratch: usiz
     }
     answer
 }
+
+pub fn pairing(m: usize, q: u64, left: &[u64], right: &[u64]) -> Answer {
+    let answer = answer!(plain::pairing(m, q, left, right), value => [value]);
+    assert_eq!(answer!(hecke::pairing(m, q, left, right), value => [value]), answer);
+    for room in ROOMS {
+        let (mut h, mut g) = (Lent::new(left), Lent::new(right));
+        judge(&answer, room, |words, room| unsafe {
+            raw::hecke_pairing(m, q, h.ptr(), h.len(), g.ptr(), g.len(), words, room)
+        });
+        h.assert_holds(left);
+        g.assert_holds(right);
+    }
+    answer
+}

@@ -6,6 +6,7 @@
 mod compare;
 mod elements;
 mod lent;
+mod pairings;
 mod random;
 mod runs;
 mod sheets;
