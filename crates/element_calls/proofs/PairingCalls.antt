@@ -21,6 +21,14 @@ use Rattle.element_calls.proofs.Verdicts.{rank-taken, size-taken}
 use Rattle.element_calls.proofs.Answers.{sum-lent, scale-lent, product-lent, pairing-verdict, pairing-value}
 use Rattle.element_calls.proofs.Demand3.{demand-3}
 
+module _ (m q : ℕ) (h g : List ℕ) (rank : m ≤ 6) (left : length h ≡ factorial (suc m)) (right : length g ≡ factorial (suc m)) where
+  pairing-given : Given (pairingCall m q h g)
+  pairing-given = pairing-verdict m q h g ∙ rw (rank-taken m rank, size-taken m (length h) rank left, size-taken m (length g) rank right) refl
+
+  pub pairing-gives : pairingCall m q h g .value ≡ pairing ℕ words q m h g
+  unfolding modulus
+  pairing-gives = pairing-value m q h g pairing-given
+
 module _ (m q : ℕ) (rank : m ≤ 6) (hq : q < wordModulus) where
   D : Lawful m q
   D = unfold modulus in demand-3 m q rank hq
@@ -34,12 +42,10 @@ module _ (m q : ℕ) (rank : m ≤ 6) (hq : q < wordModulus) where
   -- ---- what the calls give and write
 
   given : (h g : List ℕ) → E m q h → E m q g → Given (pairingCall m q h g)
-  given h g a b = pairing-verdict m q h g
-      ∙ rw (rank-taken m rank, size-taken m (length h) rank (a .size), size-taken m (length g) rank (b .size)) refl
+  given h g a b = pairing-given m q h g rank (a .size) (b .size)
 
   gives : {h g : List ℕ} → E m q h → E m q g → pairingCall m q h g .value ≡ pairing ℕ words q m h g
-  unfolding modulus
-  gives {h} {g} a b = pairing-value m q h g (given h g a b)
+  gives {h} {g} a b = pairing-gives m q h g rank (a .size) (b .size)
 
   sums : (h g result : List ℕ) → E m q h → E m q g → length result ≡ factorial (suc m) → sumCall m h g result .lent ≡ plus ℕ words h g
   sums h g result a b c = sum-lent m h g result (D .sum-taken h g result a b c)

@@ -6,7 +6,6 @@ pub mod LineLengths
 mod Overwritten
 mod Listing
 mod EqualWords
-mod Horner
 -- the calls
 mod Lent
 pub mod Front

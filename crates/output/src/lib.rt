@@ -17,8 +17,8 @@ use sheet_format::Decoded;
 use sheet_format::Header;
 use sheet_format::Query;
 
+mod equality;
 mod lines;
-mod pairs;
 
 // Bytes enough for what any command prints: 4 for a register's line, and 25 for each of 720 coefficients.
 pub const ROOM: usize = 18004;
@@ -44,13 +44,13 @@ fn put_pairing(buffer: &mut [u8], x: &[u64], header: Header, a: usize, b: usize)
     let size = ranks::size(header.rank);
     let left = 720 * a;
     let right = 720 * b;
-    let value = pairs::pairing(
-        &x[left..left + size],
-        &x[right..right + size],
+    let paired = pairings::pairing(
         header.rank,
         header.q,
+        &x[left..left + size],
+        &x[right..right + size],
     );
-    lines::put_line(buffer, 80, value)
+    lines::put_line(buffer, 80, paired.value)
 }
 
 fn put_equality(buffer: &mut [u8], x: &[u64], header: Header, a: usize, b: usize) -> usize
@@ -60,7 +60,7 @@ fn put_equality(buffer: &mut [u8], x: &[u64], header: Header, a: usize, b: usize
     let size = ranks::size(header.rank);
     let left = 720 * a;
     let right = 720 * b;
-    let same = pairs::equal(&x[left..left + size], &x[right..right + size]);
+    let same = equality::equal(&x[left..left + size], &x[right..right + size]);
     lines::put_line(buffer, 81, same as u64)
 }
 

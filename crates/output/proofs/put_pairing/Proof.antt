@@ -1,7 +1,9 @@
 -- The two parts that are lent are the elements of the registers.
+use mathlib.Core.Path.{ap, _∙_}
 use native.Mathlib.Nat.{le-trans}
 use native.Mathlib.Omega.{arith}
 use borrow.Author.Needs.{needs}
+use Rattle.element_calls.proofs.PairingCalls.{pairing-gives}
 use Rattle.machine.proofs.Put.{lent-is, lent-size}
 use Rattle.output.specs.Printed.{shown}
 use Rattle.output.proofs.LineLengths.{line-short}
@@ -22,13 +24,6 @@ paired c = c .before .before
 
 -- ---- the needs
 
-pairing-requires : tie.Need-pairing-requires
-pairing-requires c κs =
-    let sized = c .before .before in
-    let s0 = start sized in
-    let z = held (s0 .pre .0) (sized .size .ensures) in
-    record { low = s0 .pre .0 .low; left = lent-size z (omega arith); right = lent-size z (omega arith) }
-
 put-line-requires : tie.Need-put-line-requires
 put-line-requires c κs =
     le-trans (line-short _ _ (omega arith)) (omega (arith, start (size (c .before)) .pre .0 .large))
@@ -40,7 +35,10 @@ returns c =
     let sized = size (paired put) in
     let s0 = start sized in
     let z = held (s0 .pre .0) (sized .size .ensures) in
-    rw (paired put .pairing .ensures, lent-is z (s0 .pre .1), lent-is z (s0 .pre .2)) at (put .put-line .ensures)
+    let low = s0 .pre .0 .low in
+    let value = ap (λ a. a .value) (paired put .pairing .ensures)
+        ∙ pairing-gives _ _ _ _ (omega arith) (lent-size z (s0 .pre .1)) (lent-size z (s0 .pre .2)) in
+    rw (value, lent-is z (s0 .pre .1), lent-is z (s0 .pre .2)) at (put .put-line .ensures)
 
 pub put-pairing-spec : {M : Type 1} → statement M
 put-pairing-spec =
@@ -52,4 +50,4 @@ put-pairing-spec =
     (λ c. omega (arith, few (start (c .before) .pre .0) (c .before .size .ensures)))
     (λ c. search needs) (λ c. search needs) (λ c. search needs)
     (λ c. omega (arith, few (start (c .before) .pre .0) (c .before .size .ensures)))
-    pairing-requires put-line-requires (λ c. search needs) returns)
+    (λ c κs. search needs) put-line-requires (λ c. search needs) returns)

@@ -4,8 +4,8 @@ use Prim.Native.Nat.{_-_, _≤_}
 use native.Mathlib.Omega.{arith}
 use lib.ListN.{length}
 use Rattle.output.proofs.EqualWords.{Alike, alike-more, alike-not, alike-all}
-use Rattle.output.proofs.pairs.equal.Statement.{statement}
-use Rattle.output.proofs.pairs.equal.Tie as tie
+use Rattle.output.proofs.equality.equal.Statement.{statement}
+use Rattle.output.proofs.equality.equal.Tie as tie
 
 abbrev Inv-loop : tie.InvT-loop
 Inv-loop a b i₀ i-end i = (i ≤ i-end) × (i-end ≡ length a) × Alike a b i
