@@ -6,7 +6,7 @@ use Rattle.lists.specs.Numbers.{factorial, series}
 use Rattle.lists.specs.Blocks.{block, blocks}
 use Rattle.lists.specs.Overwrite.{overwrite}
 use Rattle.refusals.specs.Refusals.{ended}
-use Rattle.perms.specs.Permutation.{product, identity, swap, generator, ofWord, below, len, descent}
+use Rattle.perms.specs.Permutation.{product, identity, inverse, swap, generator, ofWord, below, len, descent}
 use Rattle.perms.specs.Tower.{above, entry, towerOf, cycle, ofCycles, imagesOf}
 use Rattle.perms.specs.ShortestWord.{firstLetters, shortestWord}
 use Rattle.algebra.specs.Place.{place, join, perms}
@@ -14,9 +14,11 @@ use Rattle.algebra.specs.Element.{coefficient, element, plus, scale, sumOver, b
 use Rattle.algebra.specs.Product.{minusOne, letter, act, times}
 use Rattle.algebra.specs.Nested.{operations, both, free, onward, _⧺_, row, _⊞_, _⊠_, sumRow, part, level, nestedAct, nested}
 use Rattle.algebra.specs.Cost.{cLine, c, C}
+use Rattle.algebra.specs.Pairing.{power, pairing}
+use Rattle.ring.specs.Sum.{sum}
 use Rattle.ranks.specs.Ranks.{size, needed, scratchSize}
 use Rattle.element_calls.specs.Coefficients.{modulus}
-use Rattle.element_calls.specs.Calls.{rankVerdict, sizeVerdict, scratchVerdict, productCall}
+use Rattle.element_calls.specs.Calls.{rankVerdict, sizeVerdict, scratchVerdict, productCall, pairingCall}
 use Rattle.sheet_format.specs.Format.{byte, number, row as command-row, decode, header}
 use Rattle.sheet.specs.Check.{inOrder, isRegister, updateInRange, queryInRange, operandsInRange, inRange, invertible, mayRun, placedFrom, placed, commands, firstRefusal, checkSheet}
 use Rattle.machine.specs.Registers.{register, zeros, element as register-element}
@@ -31,7 +33,7 @@ pub marked : All Holds table
 unfolding modular same less range first tally product identity swap generator ofWord below len above entry towerOf cycle ofCycles
     imagesOf descent firstLetters shortestWord factorial series block blocks place join perms coefficient element plus scale sumOver basis unit minusOne letter
     act times operations both free onward _⧺_ row _⊞_ _⊠_ sumRow part level nestedAct nested cLine c C rankVerdict size sizeVerdict needed scratchSize scratchVerdict
-    modulus productCall byte number command-row decode header inOrder isRegister updateInRange queryInRange operandsInRange inRange invertible mayRun placedFrom placed commands
+    modulus productCall inverse sum power pairing pairingCall byte number command-row decode header inOrder isRegister updateInRange queryInRange operandsInRange inRange invertible mayRun placedFrom placed commands
     firstRefusal checkSheet register register-element overwrite zeros updated obey updateCost cost obeyAll runSheet beginCall fits obeys turnCall turns
     digits decimal pairLine line taggedPair coefficients shown text texts printed ended
 marked = (
@@ -52,7 +54,7 @@ marked = (
                 (refl, refl),
                 (
                   (refl, refl),
-                  (refl, (refl, (refl, (refl, ((refl, refl), ((refl, refl, refl, refl), tt)))))),
+                  (refl, (refl, (refl, (refl, ((refl, refl), ((refl, refl, refl, refl), ((refl, refl, refl), ((refl, refl, refl), (refl, tt))))))))),
                 ),
               ),
             ),

@@ -1,10 +1,11 @@
--- Document 01's marked cases as a table of facts about the definitions.
+-- The marked cases of document 01, and of document 02, Ticket 2, as a table of facts about the definitions.
 --
---   Case        a marked case: what is given, and what document 01 says of it
---   Holds c     the definitions give what document 01 says: the list of permutations and their places; the tower and its images; a square by the
+--   Case        a marked case: what is given, and what the document says of it
+--   Holds c     the definitions give what the document says: the list of permutations and their places; the tower and its images; a square by the
 --               product over permutations, by the nested method and as the product call's outcome; C and the count that the nested method
---               carries; the count that the product call answers; the run of a sheet, at once and by turns, and what is printed for it
---   table       the marked cases, in document 01's order
+--               carries; the count that the product call answers; the run of a sheet, at once and by turns, and what is printed for it; a
+--               pairing, the coefficient of the unit in the product, and the word that the call for the pairing gives
+--   table       the marked cases, in the documents' order
 use mathlib.Core.Path.{_≡_}
 use mathlib.Core.List.{List, [], _∷_, _++_, map}
 use Prim.Native.Nat.{ℕ, suc, _+_, _-_, _^_}
@@ -15,15 +16,16 @@ use Rattle.lists.specs.Numbers.{factorial}
 use Rattle.refusals.specs.Refusals.{accepted, Outcome}
 use Rattle.refusals.specs.declared.Answer.{Answer}
 use Rattle.refusals.specs.declared.Verdict.the-variants.{Accepted}
-use Rattle.perms.specs.Permutation.{ofWord}
+use Rattle.perms.specs.Permutation.{identity, ofWord}
 use Rattle.perms.specs.Tower.{towerOf, imagesOf}
 use Rattle.algebra.specs.Place.{place, perms}
-use Rattle.algebra.specs.Element.{basis, unit}
+use Rattle.algebra.specs.Element.{coefficient, basis, unit}
 use Rattle.algebra.specs.Product.{minusOne, times}
 use Rattle.algebra.specs.Nested.{operations, nested}
 use Rattle.algebra.specs.Cost.{C}
+use Rattle.algebra.specs.Pairing.{pairing}
 use Rattle.ranks.specs.Ranks.{needed}
-use Rattle.element_calls.specs.Calls.{Buffers, productCall}
+use Rattle.element_calls.specs.Calls.{Buffers, productCall, pairingCall}
 use Rattle.sheet_format.specs.Format.{header}
 use Rattle.runner.specs.Run.{given, runSheet}
 use Rattle.runner.specs.Turn.{first, beginCall, turns}
@@ -44,6 +46,10 @@ pub data Case : Type 0 where
   answered : ℕ → ℕ → Case
   -- the bytes of a sheet, the words at the front of register 0, the others being 0, the count, and what is printed
   run : List ℕ → List ℕ → ℕ → List ℕ → Case
+  -- a rank, q, words of v and w, and the pairing of T_v with T_w
+  paired : ℕ → ℕ → List ℕ → List ℕ → ℕ → Case
+  -- the bytes of a sheet, and what is printed for it
+  prints : List ℕ → List ℕ → Case
 
 -- T of the permutation of a word
 abbrev basisOf : ℕ → List ℕ → List ℕ
@@ -71,6 +77,11 @@ Holds (run s h n t) =
     × (beginCall s ≡ Ready (header s) first)
     × (turns (length s) s (header s) first (registersOf []) ≡ record { cursor = record { at = length s - 1; count = n }; last = Ended; contents = registersOf h })
     × (printed s ≡ t)
+Holds (paired m q x y n) =
+    (pairing ℕ words q m (basisOf m x) (basisOf m y) ≡ n)
+    × (coefficient ℕ words (times ℕ words q (minusOne ℕ words q) m m (basisOf m x) (basisOf m y)) (identity m) ≡ n)
+    × (pairingCall m q (basisOf m x) (basisOf m y) ≡ record { verdict = Accepted; value = n })
+Holds (prints s t) = printed s ≡ t
 
 abbrev pub table : List Case
 table =
@@ -94,4 +105,12 @@ table =
     6
     -- H 1 3, R 0, 0 3, 1 2, N 6
     (72 ∷ 32 ∷ 49 ∷ 32 ∷ 51 ∷ 10 ∷ 82 ∷ 32 ∷ 48 ∷ 10 ∷ 48 ∷ 32 ∷ 51 ∷ 10 ∷ 49 ∷ 32 ∷ 50 ∷ 10 ∷ 78 ∷ 32 ∷ 54 ∷ 10 ∷ [])
+    ∷ paired 2 2 (1 ∷ 2 ∷ []) (1 ∷ 2 ∷ []) 0
+    ∷ paired 2 2 (1 ∷ 2 ∷ []) (2 ∷ 1 ∷ []) 4
+    -- T of s_1 s_2 in register 0, T of s_2 s_1 in register 1; the pairing of the first with itself, and with the second
+    ∷ prints
+    (0x10 ∷ 0x02 ∷ 0x02 ∷ 0x00 ∷ 0x00 ∷ 0x00 ∷ 0x00 ∷ 0x00 ∷ 0x00 ∷ 0x00 ∷ 0x20 ∷ 0x00 ∷ 0x30 ∷ 0x00 ∷ 0x01 ∷ 0x30 ∷ 0x00 ∷ 0x02
+    ∷ 0x20 ∷ 0x01 ∷ 0x30 ∷ 0x01 ∷ 0x02 ∷ 0x30 ∷ 0x01 ∷ 0x01 ∷ 0x41 ∷ 0x00 ∷ 0x00 ∷ 0x41 ∷ 0x00 ∷ 0x01 ∷ 0x00 ∷ [])
+    -- H 2 2, P 0, P 4, N 36
+    (72 ∷ 32 ∷ 50 ∷ 32 ∷ 50 ∷ 10 ∷ 80 ∷ 32 ∷ 48 ∷ 10 ∷ 80 ∷ 32 ∷ 52 ∷ 10 ∷ 78 ∷ 32 ∷ 51 ∷ 54 ∷ 10 ∷ [])
     ∷ []
