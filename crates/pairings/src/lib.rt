@@ -32,10 +32,8 @@ fn paired(left: &[u64], right: &[u64], m: usize, q: u64) -> u64
 pub fn pairing(m: usize, q: u64, left: &[u64], right: &[u64]) -> Valued
     ensures { λ v. ⌜ v ≡ pairingCall m q (now (left .entry)) (now (right .entry)) ⌝ }
 {
-    let checked = then(
-        then(checks::rank(m), checks::sized(m, left.len())),
-        checks::sized(m, right.len()),
-    );
+    let sized = then(checks::rank(m), checks::sized(m, left.len()));
+    let checked = then(sized, checks::sized(m, right.len()));
     if let Verdict::Refused(why) = checked {
         return Valued {
             verdict: Verdict::Refused(why),
