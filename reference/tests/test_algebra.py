@@ -151,7 +151,6 @@ class Laws(unittest.TestCase):
                 self.assertEqual(a.act(3, q, h, x), a.product(3, q, h, word_basis(3, x)))
 
 
-
 class Pairings(unittest.TestCase):
     def test_pairing(self):
         """The pairing is the coefficient of the unit in the product."""
@@ -178,6 +177,17 @@ class Pairings(unittest.TestCase):
                 h, g = word_basis(m, word), word_basis(m, word[::-1])
                 self.assertEqual(a.pairing(m, 3, h, g), 3 ** len(word))
                 self.assertEqual(a.pairing(m, 3, h, h), 3 ** len(word) if p.inverse(w) == w else 0)
+
+    def test_linear_in_each_argument(self):
+        source = random.Random(18)
+        for m in range(6):
+            for q in PARAMETERS:
+                h, g, k = (random_element(source, m) for _ in range(3))
+                c = source.randrange(a.WORD)
+                both = (a.pairing(m, q, h, k) + c * a.pairing(m, q, g, k)) % a.WORD
+                self.assertEqual(a.pairing(m, q, a.add(h, a.scale(c, g)), k), both)
+                both = (a.pairing(m, q, k, h) + c * a.pairing(m, q, k, g)) % a.WORD
+                self.assertEqual(a.pairing(m, q, k, a.add(h, a.scale(c, g))), both)
 
     def test_either_side_of_a_product(self):
         source = random.Random(17)
