@@ -54,7 +54,7 @@ def two_elements(m):
 
 
 def seen(m, *registers):
-    """The registers shown; those of rank 5 by their pairings, which at q = 3 depend on every word."""
+    """The registers shown; those of rank 5 by their pairings, which at q = 3 depend on every word, but not on its highest bits."""
     return b''.join(show(r) if m < MOST_RANK else pair(r, r) + pair(r, 0) for r in registers)
 
 
@@ -246,6 +246,8 @@ def pairings():
     yield 'either_side_of_a_product_rank_3', sheet(3, BYTES, three, sides)
     for name, q in PARAMETERS.items():
         yield f'at_q_{name}_rank_2', sheet(2, q, two_elements(2), pair(0, 1), pair(0, 0))
+    for m in RANKS[4:]:
+        yield f'at_q_lowest_byte_first_rank_{m}', sheet(m, BYTES + 1, two_elements(m), pair(0, 1), pair(0, 0))
     yield 'of_zero', sheet(2, 3, unit(0), pair(0, 1), pair(1, 0), pair(2, 3))
     yield 'wraps', sheet(1, 2 ** 32, put(0, 0, 2 ** 63 + 1), put(0, 1, 2 ** 31 + 1), pair(0, 0))
 

@@ -22,7 +22,7 @@ const TERMS: &str = "
   no case of its own for ranks 1 to 3, as the library has; this is why the library is the faster of the two. For towers,
   plain Rust with the same checks, where larger images are counted in a mask of those seen, `bench/src/towers.rs`. For the
   pairing, `bench/src/pairing.rs`: w and its inverse go down together through the ranks, so that the place of the inverse takes a
-  step for each w and no table. For sheets, the runner of `rust/plain` by this method.
+  step for each w and no table; the library's walk is another, which carries weights and ends at rank 1. For sheets, the runner of `rust/plain` by this method.
 - **C**: the same nested method in C tuned by hand, `bench/c/nested.c`, with the library's cases of their own (letters in place;
   letters at ranks 1 to 3, and T_a(2,2) at rank 2; a right factor of rank 1) and with no checks. It is compiled by cc and by clang
   with -O3 for any x86-64 processor, as the archive is; both take part, and the faster is shown. It has no signed letters. The

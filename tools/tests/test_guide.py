@@ -101,12 +101,16 @@ class Tables(unittest.TestCase):
         self.assertIn(f'so {letters:,} letters of either kind fit beside `begin`, `unit`, `show` and `end`', sentences)
 
     def test_pairings(self):
-        """The pairing worked by hand, which is the same both ways, and the indexes of rank 2 that change places."""
+        """The pairing worked by hand, the index of an inverse at rank 3, and the indexes of rank 2 that change places."""
         sentences = ' '.join(GUIDE.split())
         self.assertIn(f'2 · 4 + 5 · 7 · 3 = {pairing(1, 3, [2, 5], [4, 7])} at index 0', sentences)
-        self.assertIn('`pair 0 1` and `pair 1 0` give the same number.', sentences)
-        sheet = to_bytes('begin 2 3\nset 0 s1 4\nset 0 s1s2 5\nset 1 s1 7\nset 1 s2s1 8\npair 0 1\npair 1 0\nend')
-        self.assertEqual(printed(sheet).splitlines()[1:3], [f'P {3 * 4 * 7 + 9 * 5 * 8}'] * 2)
+        sheet = to_bytes('begin 2 3\nset 0 s1 4\nset 0 s1s2 5\nset 1 s1 7\nset 1 s2s1 8\npair 0 1\nend')
+        self.assertEqual(printed(sheet).splitlines()[1], f'P {3 * 4 * 7 + 9 * 5 * 8}')
+        length, other = lengths_and_inverses(3)[17]
+        images = permutations(3)[17], permutations(3)[other]
+        self.assertIn('for index 17 of rank 3, with images {}, these are {}, which is index {}.'.format(
+            *(' '.join(map(str, w)) for w in images), other), sentences)
+        self.assertIn(f'5 at index 17 and 7 at index {other} give 5 · 7 · q^{length}.', sentences)
         first, second = (w for w, (_, v) in enumerate(lengths_and_inverses(2)) if v != w)
         self.assertIn(f'At rank 2 only the indexes {first} and {second}, of s1s2 and s2s1, change places', sentences)
 

@@ -1,11 +1,12 @@
 -- The product by blocks of the right factor (3.3): h g is the sum over k of (h g_k) T_a(l,k), for g = (g_0, .., g_l). It goes by
--- standard words, which end in the word of a(l, k). Rests on Enumeration, Convolution, Elements, and perms' Standard and Lengths.
+-- standard words, which end in the word of a(l, k); so u a(l, k) is longer than u by k. Rests on Enumeration, Convolution, Elements, and perms' Standard
+-- and Lengths.
 use mathlib.Core.Path.{_≡_, refl, sym, ap, ap₂, _∙_, fun-ext}
 use mathlib.Core.List.{List, _++_, map}
 use Prim.Native.Nat.{ℕ, zero, suc, _+_, _-_, _≤_}
 use native.Mathlib.Nat.{zero-add}
 use native.Mathlib.Omega.{arith}
-use lib.ListN.{length}
+use lib.ListN.{length, length-append}
 use Rattle.ring.specs.Ring.{Ops, Ring}
 use Rattle.ring.specs.Sum.{sum}
 use Rattle.ring.proofs.Sum.{sum-map, sum-append}
@@ -14,9 +15,9 @@ use Rattle.lists.specs.Lists.{range}
 use Rattle.lists.specs.Numbers.{factorial}
 use Rattle.lists.specs.Blocks.{block, blocks}
 use Rattle.lists.proofs.Range.{mem-range}
-use Rattle.perms.specs.Permutation.{Perm}
+use Rattle.perms.specs.Permutation.{Perm, len}
 use Rattle.perms.specs.Tower.{cycle, towerOf, standard}
-use Rattle.perms.proofs.Word.{word-cycle}
+use Rattle.perms.proofs.Word.{word-cycle, length-cycle}
 use Rattle.perms.proofs.Standard.{standard-extend}
 use Rattle.perms.proofs.Lengths.{standard-shortest}
 use Rattle.algebra.specs.Place.{join, perms}
@@ -24,7 +25,7 @@ use Rattle.algebra.specs.Element.{coefficient, sumOver}
 use Rattle.algebra.specs.Product.{act, times}
 use Rattle.algebra.proofs.Functions.{Eq, sum-all}
 use Rattle.algebra.proofs.Ranges.{sum-range, sum-snoc}
-use Rattle.algebra.proofs.Enumeration.{join-extend, perms-perm}
+use Rattle.algebra.proofs.Enumeration.{join-extend, perm-join, perms-perm}
 use Rattle.algebra.proofs.Words.{Rw, Rw-append, Rw-cong, Rw-comb}
 use Rattle.algebra.proofs.Convolution.{prod, prod-words}
 use Rattle.algebra.proofs.Elements.{has-own, has-act, has-times, has-block, has-sumOver, equal-elements}
@@ -34,6 +35,13 @@ standard-join {m} k u l p =
     ap (λ w. standard (towerOf w)) (join-extend k u l p)
     ∙ standard-extend (m + 2 - k) u (record { low = omega arith; high = omega arith; rest = p })
     ∙ ap (λ i. standard (towerOf u) ++ cycle (suc m) i) (omega arith)
+
+pub len-join : {m : ℕ} (k : ℕ) (u : List ℕ) → k ≤ suc m → Perm m u → len (join m k u) ≡ len u + k
+len-join {m} k u l p =
+    standard-shortest (suc m) (join m k u) (perm-join k u l p) .short
+    ∙ ap length (standard-join k u l p)
+    ∙ length-append (standard (towerOf u)) (cycle (suc m) k)
+    ∙ omega (arith, length-cycle (suc m) k, standard-shortest m u p .short)
 
 module _ (A : Type 0) (o : Ops A) (𝓡 : Ring A o) where
   sum-blocks : {B : Type 0} (n : ℕ) (g : ℕ → List B) (f : B → A) → sum A o (blocks n g) f ≡ sum A o (range 0 n) (λ k. sum A o (g k) f)

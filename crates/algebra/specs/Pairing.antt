@@ -1,5 +1,5 @@
 -- The pairing of two elements of rank m (document 02, Ticket 2), for any operations o on A. It is the coefficient of the unit in the product ab, which
--- the field writes τ(ab), for the canonical symmetrizing trace τ: the record `PairingLaws` of PairingLaws.
+-- the field writes τ(ab), for the canonical trace τ, symmetrizing where q is a unit: the record `PairingLaws` of PairingLaws.
 --
 --   power x n         x to the power n
 --   pairing q m a b   the sum over w of q to the power ℓ(w) times a_w times b at the inverse of w

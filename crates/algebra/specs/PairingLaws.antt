@@ -1,6 +1,6 @@
 -- What holds of the pairing of elements of rank m (document 02, Ticket 2), as a claim about the definitions, for any q and r. There E h says that h is an
 -- element of rank m; h · g, h ⊕ g and x ⊙ h are their product, sum and multiple, and τ h is the coefficient of the unit in h. In the field's words τ is the
--- canonical symmetrizing trace, and the pairing is τ of the product.
+-- canonical trace, symmetrizing where q is a unit, and the pairing is τ of the product.
 --
 --   PairingLaws      the pairing of h and g is τ of h g, and it is linear in each of them
 use mathlib.Core.Path.{_≡_}

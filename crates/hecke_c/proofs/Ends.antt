@@ -49,10 +49,11 @@ pub told-answer : {r s : Report} {xs ys : List ℕ} {w : ℕ} {y : List ℕ} (an
     → _≡_ {A = Returned (List ℕ)} (record { word = wordOf s; lent = told s ys answer }) (record { word = w; lent = y })
 told-answer answer e g f = sym (λ i. record { word = (f .0 ∙ ap wordOf e) i; lent = (f .1 ∙ (λ j. told (e j) (g j) answer)) i })
 
--- a call that gives one word, of which the count says nothing
+-- a call whose answer is one word, and no count
 pub told-value : {a b : Valued} {w : ℕ} {y : List ℕ} (answer : List ℕ) → a ≡ b
     → (w ≡ wordOf (reported (a .verdict) (a .value))) × (y ≡ told (reported (a .verdict) (a .value)) (a .value ∷ []) answer)
-    → _≡_ {A = Returned (List ℕ)} (record { word = wordOf (valuedReport b); lent = told (valuedReport b) (b .value ∷ []) answer }) (record { word = w; lent = y })
+    → _≡_ {A = Returned (List ℕ)} (record { word = wordOf (valuedReport b); lent = told (valuedReport b) (b .value ∷ []) answer })
+    (record { word = w; lent = y })
 unfolding wordOf told
 told-value {a} {b} {w} {y} answer e f =
     told-answer {r = valuedReport a} answer (ap valuedReport e) (ap (λ c. c .value ∷ []) e) (go (a .verdict) f)

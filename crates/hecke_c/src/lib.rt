@@ -184,7 +184,8 @@ pub extern "C" fn hecke_pairing(
     right: &[u64],
     answer: &mut [u64],
 ) -> u64
-    ensures { λ w. ⌜ pairing m q (now (left .entry)) (now (right .entry)) (now (answer .entry)) ≡ record { word = w; lent = now (answer .exit) } ⌝ }
+    ensures { λ w. ⌜ pairing m q (now (left .entry)) (now (right .entry)) (now (answer .entry))
+        ≡ record { word = w; lent = now (answer .exit) } ⌝ }
 {
     let paired = pairings::pairing(m, q, left, right);
     let verdict = paired.verdict;

@@ -33,7 +33,8 @@ pub marked : All Holds table
 unfolding modular same less range first tally product identity swap generator ofWord below len above entry towerOf cycle ofCycles
     imagesOf descent firstLetters shortestWord factorial series block blocks place join perms coefficient element plus scale sumOver basis unit minusOne letter
     act times operations both free onward _⧺_ row _⊞_ _⊠_ sumRow part level nestedAct nested cLine c C rankVerdict size sizeVerdict needed scratchSize scratchVerdict
-    modulus productCall inverse sum power pairing pairingCall byte number command-row decode header inOrder isRegister updateInRange queryInRange operandsInRange inRange invertible mayRun placedFrom placed commands
+    modulus productCall inverse sum power pairing pairingCall
+    byte number command-row decode header inOrder isRegister updateInRange queryInRange operandsInRange inRange invertible mayRun placedFrom placed commands
     firstRefusal checkSheet register register-element overwrite zeros updated obey updateCost cost obeyAll runSheet beginCall fits obeys turnCall turns
     digits decimal pairLine line taggedPair coefficients shown text texts printed ended
 marked = (

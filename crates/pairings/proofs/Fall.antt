@@ -1,39 +1,23 @@
 -- The fall of an inverse, as one point more comes to the permutation: with c = `pred` of its image, the weight c counts c times, and the rest falls by
--- the other weights. Rests on lists' Series and perms' InverseExtend.
+-- the other weights. Rests on perms' Extend and InverseExtend.
 use mathlib.Core.Path.{_≡_, sym, ap, ap₂, _∙_}
 use mathlib.Core.Bool.{false}
 use mathlib.Core.List.{List}
-use Prim.Native.Nat.{ℕ, zero, suc, pred, _+_, _*_, _≤_, _<_}
+use Prim.Native.Nat.{ℕ, suc, pred, _+_, _*_, _≤_, _<_}
 use native.Mathlib.Omega.{arith}
 use lib.ListN.{length, getD}
 use Rattle.lists.specs.Lists.{less, bit}
 use Rattle.lists.specs.Numbers.{series}
-use Rattle.lists.proofs.Test.{LessView, lt, ge, less?, less-yes, less-no}
+use Rattle.lists.proofs.Test.{less-yes, less-no}
 use Rattle.lists.proofs.Series.{series-cong, series-const}
 use Rattle.perms.specs.Permutation.{inverse}
 use Rattle.perms.specs.Extend.{bump, extend}
 use Rattle.perms.proofs.Image.{perm-image}
-use Rattle.perms.proofs.Extend.{BumpView, under, over, bump?, bump-under, bump-over}
+use Rattle.perms.proofs.Extend.{BumpView, under, over, bump?, bump-under, series-without}
 use Rattle.perms.proofs.Split.{Tail, perm-extend}
 use Rattle.perms.proofs.InverseExtend.{inverse-extend-top, inverse-extend-rest}
 use Rattle.perms.proofs.Group.{perm-inverse}
 use Rattle.pairings.specs.Walk.{lower, fall}
-
--- ---- a series without the term c
-
-pub series-without : (n c : ℕ) (F : ℕ → ℕ) → c ≤ n → series 0 (suc n) F ≡ F c + series 0 n (λ j. F (bump c j))
-unfolding series
-series-without zero c F h = let e : c ≡ 0 + 0 = omega arith in omega (arith, ap F e)
-series-without (suc n) c F h = go (series-without n c F) (less? c (suc n))
-  where
-    go : (c ≤ n → series 0 (suc n) F ≡ F c + series 0 n (λ j. F (bump c j))) → LessView c (suc n)
-        → series 0 (suc n) F + F (0 + suc n) ≡ F c + series 0 (suc n) (λ j. F (bump c j))
-    go ih (lt l e) =
-        let last : bump c (0 + n) ≡ 0 + suc n = bump-over (omega arith) ∙ omega arith in
-        omega (arith, ih (omega arith), ap F last)
-    go ih (ge l e) =
-        let top : c ≡ 0 + suc n = omega arith in
-        omega (arith, ap F top, series-cong 0 (suc n) F (λ j. F (bump c j)) (λ i k. ap F (sym (bump-under (omega arith)))))
 
 -- ---- one point more
 
@@ -71,7 +55,9 @@ module _ {n c : ℕ} {v v' : List ℕ} (p : Put n c v v') where
           let none : less (getD v' c 0) (getD v j 0) ≡ false = less-no (omega (arith, p .top j l)) in
           ap (lower v') e ∙ ap (λ x. series 0 (suc j) (test x)) at
           ∙ series-without j c (test (getD v j 0)) b
-          ∙ ap₂ _+_ (ap bit none) (series-cong 0 j (λ i. test (getD v j 0) (bump c i)) (λ i. bit (less (getD v i 0) (getD v j 0))) (λ i k. ap (λ x. bit (less x (getD v j 0))) (p .rest (0 + i) (omega arith))))
+          ∙ ap₂ _+_ (ap bit none)
+          (series-cong 0 j (λ i. test (getD v j 0) (bump c i)) (λ i. bit (less (getD v i 0) (getD v j 0)))
+          (λ i k. ap (λ x. bit (less x (getD v j 0))) (p .rest (0 + i) (omega arith))))
           ∙ omega arith
 
   fall-more : (f : ℕ → ℕ) → fall f v' ≡ f c * c + fall (λ j. f (bump c j)) v
@@ -80,7 +66,8 @@ module _ {n c : ℕ} {v v' : List ℕ} (p : Put n c v v') where
       ap (λ k. series 0 k (λ j. f j * lower v' j)) (p .size')
       ∙ series-without n c (λ j. f j * lower v' j) (p .within)
       ∙ ap₂ _+_ (ap (λ k. f c * k) lower-top)
-      (series-cong 0 n _ _ (λ i l. ap (λ k. f (bump c (0 + i)) * k) (lower-rest (0 + i) (omega arith))) ∙ ap (λ k. series 0 k (λ j. f (bump c j) * lower v j)) (sym (p .size)))
+      (series-cong 0 n _ _ (λ i l. ap (λ k. f (bump c (0 + i)) * k) (lower-rest (0 + i) (omega arith)))
+      ∙ ap (λ k. series 0 k (λ j. f (bump c j) * lower v j)) (sym (p .size)))
 
 pub fall-extend : {m c : ℕ} {u : List ℕ} → Tail m c u → (f : ℕ → ℕ)
     → fall f (inverse (extend c u)) ≡ f (pred c) * pred c + fall (λ j. f (bump (pred c) j)) (inverse u)

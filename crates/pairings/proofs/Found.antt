@@ -1,30 +1,29 @@
 -- Where the walk finds b, one rank down: for u a(m + 1, k) it falls by the weight c = m + 1 - k, c times, and then finds it for u by the other weights.
--- Where one can fall by all weights, one can fall so. Rests on Fall.
---
---   Rest n c f g     g has the weights f without the weight c, for n weights
-use mathlib.Core.Path.{_≡_, sym, ap, ap₂, _∙_}
+-- Where one can fall by all weights, one can fall so. Rests on Fall, Rest and lists' Series.
+use mathlib.Core.Path.{_≡_, sym, ap, _∙_}
 use mathlib.Core.List.{List}
-use Prim.Native.Nat.{ℕ, zero, suc, pred, _+_, _-_, _*_, _≤_, _<_}
+use Prim.Native.Nat.{ℕ, suc, pred, _+_, _-_, _*_, _^_, _≤_, _<_}
 use native.Mathlib.Nat.{mul-le-mul-left}
 use native.Mathlib.Omega.{arith}
+use mir.Syntax.{w64}
+use mir.Val.{Fits}
 use lib.ListN.{length, getD}
-use Rattle.lists.specs.Numbers.{factorial, series}
-use Rattle.lists.proofs.Series.{series-cong}
+use Rattle.lists.specs.Numbers.{series}
+use Rattle.lists.proofs.Series.{series-cong, series-mono}
 use Rattle.perms.specs.Permutation.{Perm, inverse}
-use Rattle.perms.specs.Extend.{bump, extend}
-use Rattle.perms.proofs.Extend.{BumpView, under, over, bump?}
+use Rattle.perms.specs.Extend.{bump}
+use Rattle.perms.proofs.Extend.{bump-above, series-without}
 use Rattle.perms.proofs.Split.{Tail}
 use Rattle.perms.proofs.Group.{perm-inverse}
 use Rattle.algebra.specs.Place.{join}
 use Rattle.algebra.proofs.Enumeration.{join-extend}
 use Rattle.pairings.specs.Walk.{lower, fall, found}
-use Rattle.pairings.proofs.Fall.{series-without, fall-extend}
+use Rattle.pairings.proofs.Fall.{fall-extend}
+use Rattle.pairings.proofs.Rest.{weight, Rest}
 
-abbrev pub weight : List ℕ → ℕ → ℕ
-weight f j = getD f j 0
-
-abbrev pub Rest : (n c : ℕ) (f g : List ℕ) → Type 0
-Rest n c f g = (j : ℕ) → j < n → weight g j ≡ weight f (bump c j)
+pub found-word : (top : ℕ) (b f w : List ℕ) → ((i : ℕ) → Fits w64 (getD b i 0)) → found top b f w < 2 ^ 64
+unfolding found
+found-word top b f w k = k _ .fits
 
 pub fall-agree : {m : ℕ} (f g : ℕ → ℕ) (w : List ℕ) → Perm m w → ((j : ℕ) → j < suc m → f j ≡ g j) → fall f w ≡ fall g w
 unfolding fall
@@ -45,18 +44,6 @@ found-join {m} k top b f g u h p r =
     ap (λ i. getD b i 0) (omega (arith, all))
 
 -- ---- how far one falls
-
-series-mono : (n : ℕ) (f g : ℕ → ℕ) → ((i : ℕ) → i < n → f i ≤ g i) → series 0 n f ≤ series 0 n g
-unfolding series
-series-mono zero f g h = omega arith
-series-mono (suc n) f g h = omega (arith, series-mono n f g (λ i l. h i (omega arith)), h (0 + n) (omega arith))
-
-bump-above : (c j : ℕ) → j ≤ bump c j
-bump-above c j = go (bump? c j)
-  where
-    go : BumpView c j → j ≤ bump c j
-    go (under p e) = omega arith
-    go (over p e) = omega arith
 
 pub reach-at : (m c top : ℕ) (f : List ℕ) → c ≤ m → series 0 (suc m) (λ j. weight f j * j) ≤ top → c * weight f c ≤ top
 reach-at m c top f h l = omega (arith, series-without m c (λ j. weight f j * j) h)

@@ -1,30 +1,20 @@
 -- By factorials, the place of a permutation and its fall make the last place: an image before another is above it or below it. Rests on lists' Series
 -- and Prefix, and perms' Image.
-use mathlib.Core.Path.{_≡_, refl, sym, ap, ap₂, _∙_}
-use mathlib.Core.Bool.{Bool}
+use mathlib.Core.Path.{_≡_, sym, ap, ap₂, _∙_}
 use mathlib.Core.List.{List}
-use Prim.Native.Nat.{ℕ, zero, suc, pred, _+_, _*_, _≤_, _<_}
+use Prim.Native.Nat.{ℕ, suc, pred, _+_, _*_, _<_}
 use native.Mathlib.Omega.{arith}
-use lib.ListN.{length, getD, take}
-use Rattle.lists.specs.Lists.{less, bit, tally}
+use lib.ListN.{length, getD}
+use Rattle.lists.specs.Lists.{less, bit}
 use Rattle.lists.specs.Numbers.{factorial, series}
 use Rattle.lists.proofs.Test.{LessView, lt, ge, less?}
-use Rattle.lists.proofs.Series.{series-cong, series-add, series-const}
-use Rattle.lists.proofs.Prefix.{Sums, sum-prefix}
+use Rattle.lists.proofs.Series.{series-cong, series-add, series-const, series-first, series-factorials}
+use Rattle.lists.proofs.Prefix.{tally-take}
 use Rattle.perms.specs.Permutation.{Perm}
 use Rattle.perms.specs.Tower.{above, entry}
 use Rattle.perms.proofs.Image.{perm-distinct}
 use Rattle.algebra.specs.Place.{place}
 use Rattle.pairings.specs.Walk.{lower, fall}
-
-tally-take : (p : ℕ → Bool) (w : List ℕ) (j : ℕ) → j ≤ length w → tally p (take j w) ≡ series 0 j (λ i. bit (p (getD w i 0)))
-unfolding series tally
-tally-take p w zero h = refl
-tally-take p w (suc j) h =
-    let s : Sums (λ x. bit (p x)) (tally p) = record { none = refl; more = λ x w. refl } in
-    let e : suc j ≡ j + 1 = omega arith in
-    ap (λ k. tally p (take k w)) e ∙ sum-prefix s j w (omega arith) ∙ ap (λ k. k + bit (p (getD w j 0))) (tally-take p w j (omega arith))
-    ∙ ap (λ i. series 0 j (λ i. bit (p (getD w i 0))) + bit (p (getD w i 0))) (omega arith)
 
 entry-lower : {m : ℕ} (w : List ℕ) → Perm m w → (j : ℕ) → j < length w → entry j w + lower w j ≡ j
 unfolding entry above lower
@@ -41,16 +31,6 @@ entry-lower w p j h =
     one i l (lt a e) (ge b f) = rw (e, f) (omega arith)
     one i l (ge a e) (lt b f) = rw (e, f) (omega arith)
     one i l (ge a e) (ge b f) = absurd (omega (arith, perm-distinct w p i j (omega arith) h (omega arith)))
-
-pub series-factorials : (n : ℕ) → suc (series 0 n (λ j. factorial j * j)) ≡ factorial n
-unfolding series factorial
-series-factorials zero = refl
-series-factorials (suc n) = let e : 0 + n ≡ n = omega arith in omega (arith, series-factorials n, ap (λ k. factorial k * k) e)
-
-series-first : (n : ℕ) (f : ℕ → ℕ) → series 0 (suc n) f ≡ f 0 + series 1 n f
-unfolding series
-series-first zero f = omega arith
-series-first (suc n) f = let e : 0 + suc n ≡ 1 + n = omega arith in omega (arith, series-first n f, ap f e)
 
 place-series : {m : ℕ} (w : List ℕ) → Perm m w → place w ≡ series 0 (suc m) (λ j. factorial j * entry j w)
 unfolding place

@@ -1,7 +1,12 @@
-pub mod Fall
-pub mod LastPlace
-pub mod ByLength
-pub mod Found
-pub mod Loop
-pub mod RankOne
-pub mod Weights
+-- sums by length
+mod ByLength
+mod WordBlocks
+-- where the walk finds the right element
+mod Fall
+mod LastPlace
+mod Rest
+mod Found
+-- the loop, its end, and its beginning
+mod Loop
+mod RankOne
+mod Weights

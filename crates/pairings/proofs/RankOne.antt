@@ -1,4 +1,4 @@
--- The two terms of rank 1, with which the walk ends. Rests on ByLength, Found and algebra's WordSlices.
+-- The two terms of rank 1, with which the walk ends. Rests on WordBlocks, Found and algebra's WordSlices.
 use mathlib.Core.Path.{_≡_, refl, sym, ap, ap₂, _∙_}
 use mathlib.Core.List.{List, [], _∷_}
 use Prim.Native.Nat.{ℕ, zero, suc, _+_, _*_, _-_, _%_, _^_, _≤_, _<_}
@@ -10,18 +10,19 @@ use lib.ListN.{length, getD, drop}
 use lib.Seq.{getD-take, getD-drop}
 use Rattle.ring.specs.Modular.{wordModulus, words, modular}
 use Rattle.ring.proofs.Modular.{words-pos}
-use Rattle.lists.specs.Lists.{range, first}
+use Rattle.lists.specs.Lists.{range}
 use Rattle.lists.specs.Numbers.{factorial, series}
 use Rattle.lists.specs.Blocks.{block}
-use Rattle.perms.specs.Permutation.{Perm, identity, inverse}
+use Rattle.perms.specs.Permutation.{identity, inverse}
 use Rattle.perms.specs.Extend.{bump}
 use Rattle.perms.proofs.Identity.{perm-identity}
 use Rattle.algebra.specs.Place.{join}
 use Rattle.algebra.proofs.WordSlices.{slice-element}
 use Rattle.pairings.specs.Walk.{byLength, lower, fall, found, walked, WalkPre}
-use Rattle.pairings.proofs.ByLength.{horner, word-rank-zero, word-blocks}
-use Rattle.pairings.proofs.Found.{weight, found-join}
-use Rattle.pairings.proofs.Loop.{found-word}
+use Rattle.pairings.proofs.ByLength.{horner}
+use Rattle.pairings.proofs.WordBlocks.{word-rank-zero, word-blocks}
+use Rattle.pairings.proofs.Rest.{weight}
+use Rattle.pairings.proofs.Found.{found-word, found-join}
 
 found-zero : (top : ℕ) (b f : List ℕ) → found top b f (identity 0) ≡ getD b top 0
 unfolding found fall lower series identity inverse range

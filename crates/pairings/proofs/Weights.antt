@@ -1,13 +1,13 @@
 -- With the factorials as weights, from the last index, the walk finds b at the place of the inverse; so it makes the pairing. Rests on Found, LastPlace,
--- ByLength and ranks' Sizes.
+-- WordBlocks and ranks' Sizes.
 use mathlib.Core.Path.{_≡_, refl, sym, ap, _∙_}
 use mathlib.Core.List.{List, [], _∷_}
 use Prim.Native.Nat.{ℕ, zero, suc, _+_, _*_, _-_, _≤_, _<_}
 use native.Mathlib.Omega.{arith}
 use lib.ListN.{length, getD}
 use Rattle.ring.specs.Modular.{words, modular}
-use Rattle.lists.specs.Numbers.{factorial, series}
-use Rattle.lists.proofs.Series.{series-cong}
+use Rattle.lists.specs.Numbers.{factorial}
+use Rattle.lists.proofs.Series.{series-cong, series-factorials}
 use Rattle.perms.specs.Permutation.{Perm, identity, inverse}
 use Rattle.perms.proofs.Identity.{perm-identity}
 use Rattle.perms.proofs.Group.{perm-inverse}
@@ -17,9 +17,11 @@ use Rattle.algebra.specs.Pairing.{pairing}
 use Rattle.algebra.proofs.Place.{place-below}
 use Rattle.ranks.proofs.Sizes.{size-small}
 use Rattle.pairings.specs.Walk.{byLength, found, walked, WalkPre, PairPre}
-use Rattle.pairings.proofs.LastPlace.{series-factorials, place-fall}
-use Rattle.pairings.proofs.ByLength.{by-length-cong, word-rank-zero}
-use Rattle.pairings.proofs.Found.{weight, fall-agree}
+use Rattle.pairings.proofs.LastPlace.{place-fall}
+use Rattle.pairings.proofs.ByLength.{by-length-cong}
+use Rattle.pairings.proofs.WordBlocks.{word-rank-zero}
+use Rattle.pairings.proofs.Rest.{weight}
+use Rattle.pairings.proofs.Found.{fall-agree}
 
 abbrev pub factorials : List ℕ
 factorials = 1 ∷ 1 ∷ 2 ∷ 6 ∷ 24 ∷ 120 ∷ 720 ∷ []

@@ -1,4 +1,4 @@
--- The walk over the permutations of rank m: the vocabulary of an inner contract, which no public contract cites.
+-- The walk over the permutations of rank m: the vocabulary of the inner contracts, which no public contract cites.
 --
 --   byLength q m a g    the sum over w of q to the power ℓ(w) times a_w times g(w), for any operations o on A
 --   lower w j           of an image list w: how many of the points 1 to j have an image below that of j + 1

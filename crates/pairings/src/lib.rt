@@ -22,7 +22,7 @@ fn paired(left: &[u64], right: &[u64], m: usize, q: u64) -> u64
         return ring::mul(left[0], right[0]);
     }
     let weights = [1, 1, 2, 6, 24, 120, 720];
-    walk::walk(left, right, m, q, right.len() - 1, &weights)
+    walk::walk(left, right, &weights, m, q, right.len() - 1)
 }
 
 // The coefficient of the unit in the product of two elements of rank m: the sum over w of q to the power ℓ(w) times left at w times

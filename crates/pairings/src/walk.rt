@@ -1,10 +1,12 @@
-// The walk over all permutations by rising place that knows the place of each inverse.
+// The walk over all permutations by falling place that knows the place of each inverse.
 
 ghost use mathlib.Core.Path.{_≡_};
 ghost use Rattle.pairings.specs.Walk.{WalkPre, walked};
 
-// The sum over the permutations w of rank m of q to the power ℓ(w) times a_w times b where the inverse of w finds it.
-pub(crate) fn walk(a: &[u64], b: &[u64], m: usize, q: u64, top: usize, weights: &[usize]) -> u64
+// The sum over the permutations w of rank m of q to the power ℓ(w) times a_w times b at the index top less the fall of the inverse of
+// w by the weights. Step c takes the w whose last image has c smaller ones beside it: the index falls by the weight c, c times, and the
+// rest goes on without that weight.
+pub(crate) fn walk(a: &[u64], b: &[u64], weights: &[usize], m: usize, q: u64, top: usize) -> u64
     requires { ⌜ WalkPre m top (now a) (now b) (now weights) ⌝ }
     ensures { λ r. ⌜ r ≡ walked q m top (now (a .entry)) (now (b .entry)) (now (weights .entry)) ⌝ }
 {
@@ -26,7 +28,7 @@ pub(crate) fn walk(a: &[u64], b: &[u64], m: usize, q: u64, top: usize, weights: 
     for c in 0..m + 1 {
         let at = (m - c) * size;
         let end = at + size;
-        let part = walk(&a[at..end], b, m - 1, q, top - c * weights[c], &rest);
+        let part = walk(&a[at..end], b, &rest, m - 1, q, top - c * weights[c]);
         sum = ring::add(part, ring::mul(q, sum));
         rest[c] = weights[c];
     }

@@ -1,12 +1,14 @@
 -- A permutation of one more point: `extend c u` makes room for the value c in u and puts c last. What a generator on the right does to it,
--- and the identity as such a list. Rests on Swap and Perm.
+-- and the identity as such a list. A series without one of its terms. Rests on Swap, Perm and lists' Series.
 use mathlib.Core.Path.{_≡_, sym, ap, ap₂, refl, _∙_}
 use mathlib.Core.List.{List, [], _∷_, _++_, map, map-id}
 use Prim.Native.Nat.{ℕ, zero, suc, _+_, _-_, _≤_, _<_}
 use native.Mathlib.Omega.{arith}
 use lib.ListN.{length, getD}
 use Rattle.lists.specs.Lists.{less, range}
+use Rattle.lists.specs.Numbers.{series}
 use Rattle.lists.proofs.Test.{SameView, is, isnt, LessView, lt, ge, same?, less?, less-yes, less-no}
+use Rattle.lists.proofs.Series.{series-cong}
 use Rattle.perms.specs.Permutation.{identity, swap}
 use Rattle.perms.specs.Extend.{bump, extend}
 use Rattle.perms.proofs.Swap.{swap-low, swap-high, swap-off, swap-lo, swap-hi, swap-suc}
@@ -39,6 +41,13 @@ bump-over {c} {v} h = go (bump? c v)
     go (under p e) = absurd (omega arith)
     go (over p e) = e
 
+pub bump-above : (c v : ℕ) → v ≤ bump c v
+bump-above c v = go (bump? c v)
+  where
+    go : BumpView c v → v ≤ bump c v
+    go (under p e) = omega arith
+    go (over p e) = omega arith
+
 -- where all values are below c nothing makes room
 pub extend-snoc : (c : ℕ) (u : List ℕ) → ((i : ℕ) → i < length u → getD u i 0 < c) → extend c u ≡ u ++ (c ∷ [])
 unfolding extend
@@ -49,6 +58,22 @@ pub length-extend : (c : ℕ) (u : List ℕ) → length (extend c u) ≡ suc (le
 unfolding extend
 length-extend c [] = refl
 length-extend c (x ∷ u) = ap suc (length-extend c u)
+
+-- ---- a series without the term c
+
+pub series-without : (n c : ℕ) (F : ℕ → ℕ) → c ≤ n → series 0 (suc n) F ≡ F c + series 0 n (λ j. F (bump c j))
+unfolding series
+series-without zero c F h = let e : c ≡ 0 + 0 = omega arith in omega (arith, ap F e)
+series-without (suc n) c F h = go (series-without n c F) (less? c (suc n))
+  where
+    go : (c ≤ n → series 0 (suc n) F ≡ F c + series 0 n (λ j. F (bump c j))) → LessView c (suc n)
+        → series 0 (suc n) F + F (0 + suc n) ≡ F c + series 0 (suc n) (λ j. F (bump c j))
+    go ih (lt l e) =
+        let last : bump c (0 + n) ≡ 0 + suc n = bump-over (omega arith) ∙ omega arith in
+        omega (arith, ih (omega arith), ap F last)
+    go ih (ge l e) =
+        let top : c ≡ 0 + suc n = omega arith in
+        omega (arith, ap F top, series-cong 0 (suc n) F (λ j. F (bump c j)) (λ i k. ap F (sym (bump-under (omega arith)))))
 
 -- ---- the order of the values
 

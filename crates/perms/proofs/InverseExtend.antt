@@ -4,7 +4,7 @@ use mathlib.Core.List.{List}
 use Prim.Native.Nat.{ℕ, suc, pred, _+_, _≤_, _<_}
 use native.Mathlib.Omega.{arith}
 use lib.ListN.{length, getD}
-use Rattle.perms.specs.Permutation.{Perm, inverse}
+use Rattle.perms.specs.Permutation.{inverse}
 use Rattle.perms.specs.Extend.{bump, extend}
 use Rattle.perms.proofs.Extend.{BumpView, under, over, bump?, bump-under, bump-over, length-extend}
 use Rattle.perms.proofs.Split.{Tail, perm-extend}

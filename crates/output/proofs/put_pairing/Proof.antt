@@ -35,9 +35,8 @@ returns c =
     let sized = size (paired put) in
     let s0 = start sized in
     let z = held (s0 .pre .0) (sized .size .ensures) in
-    let low = s0 .pre .0 .low in
     let value = ap (λ a. a .value) (paired put .pairing .ensures)
-    ∙ pairing-gives _ _ _ _ (omega arith) (lent-size z (s0 .pre .1)) (lent-size z (s0 .pre .2)) in
+    ∙ pairing-gives _ _ _ _ (omega (arith, s0 .pre .0 .low)) (lent-size z (s0 .pre .1)) (lent-size z (s0 .pre .2)) in
     rw (value, lent-is z (s0 .pre .1), lent-is z (s0 .pre .2)) at (put .put-line .ensures)
 
 pub put-pairing-spec : {M : Type 1} → statement M

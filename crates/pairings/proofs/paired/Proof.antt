@@ -16,7 +16,7 @@ returns : tie.Need-returns
 returns c = let then = c .before .before .before in c .mul .ensures ∙ pairing-zero _ _ _ (then .if1 .taken)
 
 sub-walk : tie.Need-sub-walk
-sub-walk c = omega (arith, some-words (c .before .before .before .pre))
+sub-walk c = omega (arith, some-words (c .before .before .before .before .pre))
 
 walk-requires : tie.Need-walk-requires
 walk-requires c κs = walk-pre (c .before .before .before .before .pre) (omega arith)
@@ -27,4 +27,4 @@ returns-2 c = c .walk .ensures ∙ walk-pairs (c .before .before .before .before
 pub paired-spec : {M : Type 1} → statement M
 paired-spec =
     tie.close
-    (tie.spec shared-slice-read-mul shared-slice-read-mul-2 (λ c κs. search needs) returns sub-walk (λ c. search needs) walk-requires returns-2)
+    (tie.spec shared-slice-read-mul shared-slice-read-mul-2 (λ c κs. search needs) returns (λ c. search needs) sub-walk walk-requires returns-2)

@@ -8,7 +8,8 @@ use borrow.Fn.PlainCycle.{Measures, is, falls, and}
 use Rattle.ring.proofs.add.Reads as add-reads
 use Rattle.ring.proofs.mul.Reads as mul-reads
 use Rattle.ranks.proofs.size.Reads as size-reads
-use Rattle.pairings.proofs.Found.{weight, reach-at}
+use Rattle.pairings.proofs.Rest.{weight}
+use Rattle.pairings.proofs.Found.{reach-at}
 use Rattle.pairings.proofs.Loop.{Summed, block-fits, part-pre, summed-none, summed-more, summed-all}
 use Rattle.pairings.proofs.RankOne.{two-words, rank-one}
 use Rattle.pairings.proofs.walk.walk.Reads as walk
@@ -18,7 +19,7 @@ use Rattle.pairings.proofs.walk.+walk.{statement}
 use Rattle.pairings.proofs.walk.+walk.Tie.{close}
 
 abbrev μ-walk : Measures 3 walk-kinds.ps ℕ
-μ-walk κs a = a .1 .1 .0
+μ-walk κs a = a .1 .1 .1 .0
 
 abbrev walk-at : ℕ → In 3 walk-kinds.ps
 walk-at t = and 3 walk-kinds.ps (is 3 walk-kinds.ps μ-walk t) walk.Pre
@@ -30,10 +31,10 @@ abbrev claims : ℕ → walk-lts.Claims
 claims t = (mul-reads.Asked, mul-reads.Learnt, add-reads.Asked, add-reads.Learnt, size-reads.Asked, size-reads.Learnt, walk-below t, walk.Post)
 
 abbrev Inv-loop : walk-lts.InvT-loop
-Inv-loop a b m q top weights size rest₀ sum₀ c₀ c-end rest sum c = Summed q m top size a b weights rest sum c
+Inv-loop a b weights m q top size rest₀ sum₀ c₀ c-end rest sum c = Summed q m top size a b weights rest sum c
 
 abbrev μ-loop : walk-lts.MeasureT-loop
-μ-loop a b m q top weights size rest₀ sum₀ c₀ c-end rest sum c = c-end - c
+μ-loop a b weights m q top size rest₀ sum₀ c₀ c-end rest sum c = c-end - c
 
 module _ (t : ℕ) where
   -- ---- places: the beginning of rank 1, the size, the head of the loop
@@ -122,9 +123,8 @@ pub +walk-spec : {M : Type 1} → statement M
     (λ c. omega arith)
     (λ c. omega arith)
     (λ c. omega (arith, within t c))
-    (λ c. omega arith) (λ c. omega arith) (λ c. omega arith)
-    (λ c. omega (arith, falls-by t (c .before .before))) (λ c. omega (arith, falls-by t (c .before .before)))
-    (λ c. omega arith)
+    (λ c. omega arith) (λ c. omega arith) (λ c. omega arith) (λ c. omega arith)
+    (λ c. omega (arith, falls-by t (c .before .before .before))) (λ c. omega (arith, falls-by t (c .before .before .before)))
     (walk-requires t)
     (λ c κs. search needs) (λ c κs. search needs)
     (λ c. omega arith) (λ c. omega arith) (λ c. omega arith) (λ c. omega arith) (λ c. omega arith) (λ c. omega arith)
