@@ -10,7 +10,7 @@ use Rattle.perm_calls.specs.Calls.{countedReport}
 use Rattle.perm_calls.specs.declared.Counted.{Counted}
 use Rattle.element_calls.specs.Calls.{valuedReport}
 use Rattle.element_calls.specs.declared.Valued.{Valued}
-use Rattle.hecke_c.specs.Returned.{wordOf, told, Returned, Answered}
+use Rattle.returned.specs.Returned.{wordOf, told, Returned, Answered}
 use Rattle.hecke_c.specs.Calls.{verdictCall, countedCall, answerCall}
 
 count-is : (v : Verdict) (n : ℕ) → reported v n .count ≡ n

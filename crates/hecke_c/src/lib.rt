@@ -8,8 +8,6 @@ ghost use mathlib.Core.Path.{_≡_};
 ghost use Rattle.ranks.specs.Ranks.{size, scratchSize};
 ghost use Rattle.hecke_c.specs.Calls.{towerOfImages, imagesOfTower, towerInverse, towerProduct, towerLength, towerWord, towerDescents, sum, scale, actWord, actSignedWord, product, pairing, sheetCheck, runSheet};
 
-mod returned;
-
 // The tower of an image list.
 // Example: the images 2 3 1 give the tower 0 2; it returns 0.
 #[no_mangle]

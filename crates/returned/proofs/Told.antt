@@ -1,17 +1,23 @@
--- The returned word and the answer, by the report: done, with one or two words at the front of the answer, or refused. Rests on refusals' Verdicts and
--- lists' Test.
+-- The returned word and the answer, by the report: done, with one or two words at the front of the answer, or refused; and what the word tells where no
+-- place is above 4,096. Rests on refusals' Verdicts and lists' Test.
 use mathlib.Core.Path.{_≡_, refl, sym, ap, _∙_}
 use mathlib.Core.List.{List, [], _∷_}
-use Prim.Native.Nat.{ℕ, zero, suc, _+_, _*_, _≤_}
+use Prim.Native.Nat.{ℕ, zero, suc, _≤_, _<_}
 use native.Mathlib.Omega.{arith}
 use lib.ListN.{length, set}
 use Rattle.lists.proofs.Test.{same-yes, same-no}
-use Rattle.refusals.specs.Refusals.{refusalNumber, refusalPlace, Report, reported}
+use Rattle.refusals.specs.Refusals.{refusalNumber, Report, reported, verdictReport, answerReport, Refuses}
 use Rattle.refusals.specs.declared.Refusal.{Refusal}
 use Rattle.refusals.specs.declared.Verdict.{Verdict}
 use Rattle.refusals.specs.declared.Verdict.the-variants.{Accepted, Refused}
+use Rattle.refusals.specs.declared.Answer.{Answer}
 use Rattle.refusals.proofs.Verdicts.{number-within}
-use Rattle.hecke_c.specs.Returned.{wordOf, fill, told, Tells}
+use Rattle.perm_calls.specs.Calls.{countedReport, generatorsReport}
+use Rattle.perm_calls.specs.declared.Counted.{Counted}
+use Rattle.perm_calls.specs.declared.Counted.the-variants as C
+use Rattle.perm_calls.specs.declared.Generators.{Generators}
+use Rattle.perm_calls.specs.declared.Generators.the-variants as G
+use Rattle.returned.specs.Returned.{wordOf, fill, told, Tells}
 
 -- ---- words at the front of an answer
 
@@ -33,10 +39,27 @@ fill-two a b (x ∷ y ∷ r) = refl
 
 -- ---- the word
 
-pub tells : (v : Verdict) (n : ℕ) → Tells (reported v n)
+tells : (r : Report) → r .number < 256 → r .place ≤ 4096 → Tells (wordOf r) r
 unfolding wordOf
-tells Accepted n = record { number = omega arith; place = omega arith }
-tells (Refused why) n = let few = number-within why in record { number = omega (arith, few); place = omega (arith, few) }
+tells r few near = record { whole = omega arith; number = omega arith; place = omega arith }
+
+reported-tells : (v : Verdict) (n : ℕ) → Refuses (reported v n) → Tells (wordOf (reported v n)) (reported v n)
+reported-tells Accepted n e = tells _ (omega arith) (e .near)
+reported-tells (Refused why) n e = tells _ (omega (arith, number-within why)) (e .near)
+
+pub verdict-tells : (v : Verdict) → Refuses (verdictReport v) → Tells (wordOf (verdictReport v)) (verdictReport v)
+verdict-tells v e = reported-tells v 0 e
+
+pub answer-tells : (a : Answer) → Refuses (answerReport a) → Tells (wordOf (answerReport a)) (answerReport a)
+answer-tells a e = reported-tells (a .verdict) (a .count) e
+
+pub counted-tells : (a : Counted) → Refuses (countedReport a) → Tells (wordOf (countedReport a)) (countedReport a)
+counted-tells (C.Count n) e = tells _ (omega arith) (e .near)
+counted-tells (C.Refused why) e = tells _ (omega (arith, number-within why)) (e .near)
+
+pub generators-tells : (a : Generators) → Refuses (generatorsReport a) → Tells (wordOf (generatorsReport a)) (generatorsReport a)
+generators-tells (G.Set mask n) e = tells _ (omega arith) (e .near)
+generators-tells (G.Refused why) e = tells _ (omega (arith, number-within why)) (e .near)
 
 -- ---- what is told
 
@@ -55,7 +78,7 @@ unfolding wordOf
 done-two {a = a} {n = n} answer e g f h = rw (e, g) (refl, h ∙ ap (λ y. set y 1 n) f ∙ fill-two a n answer ∙ sym (told-done n _ answer))
 
 pub refused-told : {r : Report} {n w : ℕ} (why : Refusal) (xs answer : List ℕ) → r ≡ reported (Refused why) n
-    → w ≡ refusalNumber why + 256 * refusalPlace why → (w ≡ wordOf r) × (answer ≡ told r xs answer)
+    → w ≡ wordOf (verdictReport (Refused why)) → (w ≡ wordOf r) × (answer ≡ told r xs answer)
 unfolding wordOf told
 refused-told why xs answer e f =
     rw e (f, sym (rw (same-no {x = refusalNumber why} {a = 0} (λ z. omega (arith, number-within why .0))) refl))

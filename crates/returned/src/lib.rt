@@ -1,12 +1,12 @@
-// What a call returns, by the cases of its answer: one word, and words at the front of a lent answer.
+// What a call for C and Rust returns, by the cases of its answer: one word, and words at the front of a lent answer.
 
 ghost use mathlib.Core.Path.{_≡_};
 ghost use mathlib.Core.List.{[], _∷_};
-ghost use Prim.Native.Nat.{_+_, _*_, _≤_};
 ghost use lib.ListN.{set};
-ghost use Rattle.refusals.specs.Refusals.{refusalNumber, refusalPlace, verdictReport, reported};
+ghost use Rattle.refusals.specs.Refusals.{verdictReport, reported};
+ghost use Rattle.refusals.specs.declared.Verdict.the-variants.{Refused};
 ghost use Rattle.perm_calls.specs.Calls.{countedReport, generatorsReport, generatorsMask};
-ghost use Rattle.hecke_c.specs.Returned.{wordOf, told};
+ghost use Rattle.returned.specs.Returned.{wordOf, told};
 use perm_calls::Counted;
 use perm_calls::Generators;
 use refusals::Refusal;
@@ -21,15 +21,16 @@ fn put(answer: &mut [u64], i: usize, x: u64)
     }
 }
 
+// The number in the lowest 8 bits, and the place above them.
 fn refusal(why: Refusal) -> u64
-    requires { ⌜ refusalPlace why ≤ 4096 ⌝ }
-    ensures { λ w. ⌜ w ≡ refusalNumber why + 256 * refusalPlace why ⌝ }
+    ensures { λ w. ⌜ w ≡ wordOf (verdictReport (Refused why)) ⌝ }
 {
-    refusals::number_of(why) as u64 + 256 * refusals::place_of(why) as u64
+    refusals::number_of(why) as u64 + ((refusals::place_of(why) as u64) << 8)
 }
 
-pub(crate) fn verdict(verdict: Verdict) -> u64
-    requires { ⌜ verdictReport verdict .place ≤ 4096 ⌝ }
+// A verdict alone.
+// Example: for an image at index 1 that is refused it returns 6 + 256.
+pub fn verdict(verdict: Verdict) -> u64
     ensures { λ w. ⌜ w ≡ wordOf (verdictReport verdict) ⌝ }
 {
     match verdict {
@@ -38,8 +39,9 @@ pub(crate) fn verdict(verdict: Verdict) -> u64
     }
 }
 
-pub(crate) fn counted(counted: Counted, answer: &mut [u64]) -> u64
-    requires { ⌜ countedReport counted .place ≤ 4096 ⌝ }
+// A number, as the answer.
+// Example: for the length 2 it returns 0 and answers 2.
+pub fn counted(counted: Counted, answer: &mut [u64]) -> u64
     ensures { λ w. ⌜ (w ≡ wordOf (countedReport counted))
         × (now (answer .exit) ≡ told (countedReport counted) (countedReport counted .count ∷ []) (now (answer .entry))) ⌝ }
 {
@@ -52,8 +54,9 @@ pub(crate) fn counted(counted: Counted, answer: &mut [u64]) -> u64
     }
 }
 
-pub(crate) fn generators(generators: Generators, answer: &mut [u64]) -> u64
-    requires { ⌜ generatorsReport generators .place ≤ 4096 ⌝ }
+// A set of generators: the answer is its mask and the number of its set bits.
+// Example: for the generator 2 alone it returns 0 and answers 2 1.
+pub fn generators(generators: Generators, answer: &mut [u64]) -> u64
     ensures { λ w. ⌜ (w ≡ wordOf (generatorsReport generators))
         × (now (answer .exit) ≡ told (generatorsReport generators) (generatorsMask generators ∷ generatorsReport generators .count ∷ []) (now (answer .entry))) ⌝ }
 {
@@ -67,8 +70,9 @@ pub(crate) fn generators(generators: Generators, answer: &mut [u64]) -> u64
     }
 }
 
-pub(crate) fn answered(verdict: Verdict, count: u64, answer: &mut [u64]) -> u64
-    requires { ⌜ verdictReport verdict .place ≤ 4096 ⌝ }
+// A verdict beside a count or a value, which is the answer.
+// Example: for a sum of rank 1, which counts 2, it returns 0 and answers 2.
+pub fn answered(verdict: Verdict, count: u64, answer: &mut [u64]) -> u64
     ensures { λ w. ⌜ (w ≡ wordOf (reported verdict count)) × (now (answer .exit) ≡ told (reported verdict count) (count ∷ []) (now (answer .entry))) ⌝ }
 {
     match verdict {

@@ -1,22 +1,20 @@
 -- By the cases of the answer. Rests on Told.
-use mathlib.Core.Path.{_≡_, refl, ap, subst, _∙_}
+use mathlib.Core.Path.{_≡_, refl, ap, _∙_}
 use mathlib.Core.List.{List, [], _∷_}
-use Prim.Native.Nat.{ℕ, _+_, _*_, _≤_}
+use Prim.Native.Nat.{ℕ}
 use borrow.Author.Needs.{needs}
-use Rattle.refusals.specs.Refusals.{refusalNumber, refusalPlace}
+use Rattle.refusals.specs.Refusals.{verdictReport}
 use Rattle.refusals.specs.declared.Refusal.{Refusal}
+use Rattle.refusals.specs.declared.Verdict.the-variants as Verdict
 use Rattle.perm_calls.specs.Calls.{countedReport}
 use Rattle.perm_calls.specs.declared.Counted.{Counted}
 use Rattle.perm_calls.specs.declared.Counted.the-variants.{Refused}
-use Rattle.hecke_c.specs.Returned.{wordOf, told}
-use Rattle.hecke_c.proofs.Told.{done-one, refused-told}
-use Rattle.hecke_c.proofs.returned.counted.Statement.{statement}
-use Rattle.hecke_c.proofs.returned.counted.Tie as tie
+use Rattle.returned.specs.Returned.{wordOf, told}
+use Rattle.returned.proofs.Told.{done-one, refused-told}
+use Rattle.returned.proofs.counted.Statement.{statement}
+use Rattle.returned.proofs.counted.Tie as tie
 
-refused-near : {why : Refusal} (a : Counted) → a ≡ Refused why → countedReport a .place ≤ 4096 → refusalPlace why ≤ 4096
-refused-near a e h = subst (λ a. countedReport a .place ≤ 4096) e h
-
-refused-word : {why : Refusal} {w : ℕ} (a : Counted) → a ≡ Refused why → w ≡ refusalNumber why + 256 * refusalPlace why → w ≡ wordOf (countedReport a)
+refused-word : {why : Refusal} {w : ℕ} (a : Counted) → a ≡ Refused why → w ≡ wordOf (verdictReport (Verdict.Refused why)) → w ≡ wordOf (countedReport a)
 refused-word {why} a e f = refused-told why [] [] (ap countedReport e) f .0
 
 -- the answer is then as it was
@@ -33,4 +31,4 @@ returns-2 c = (search (refused-word, needs), search (refused-answer, needs))
 pub counted-spec : {M : Type 1} → statement M
 counted-spec =
     tie.close
-    (tie.spec (λ c. search needs) (λ c κs. search needs) (λ c. search needs) (λ c κs. search (refused-near, needs)) (λ c. search needs) returns returns-2)
+    (tie.spec (λ c. search needs) (λ c κs. search needs) (λ c. search needs) (λ c κs. search needs) (λ c. search needs) returns returns-2)
