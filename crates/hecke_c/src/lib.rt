@@ -93,8 +93,7 @@ pub extern "C" fn hecke_sum(
         ≡ record { word = w; lent = now (result .exit); answer = now (answer .exit) } ⌝ }
 {
     let done = linear::sum(m, left, right, result);
-    let verdict = done.verdict;
-    returned::answered(verdict, done.count, answer)
+    returned::answered(done, answer)
 }
 
 // An element of rank m times the word c; the answer is its count.
@@ -111,8 +110,7 @@ pub extern "C" fn hecke_scale(
         ≡ record { word = w; lent = now (result .exit); answer = now (answer .exit) } ⌝ }
 {
     let done = linear::scale(m, c, element, result);
-    let verdict = done.verdict;
-    returned::answered(verdict, done.count, answer)
+    returned::answered(done, answer)
 }
 
 // The word's generators T_i act on the element of rank m, left to right; the answer is its count.
@@ -129,8 +127,7 @@ pub extern "C" fn hecke_act_word(
         ≡ record { word = w; lent = now (element .exit); answer = now (answer .exit) } ⌝ }
 {
     let done = hecke::act_word(m, q, word, element);
-    let verdict = done.verdict;
-    returned::answered(verdict, done.count, answer)
+    returned::answered(done, answer)
 }
 
 // The word's signed letters act on the element of rank m, left to right, -i as the inverse of T_i; the answer is its count.
@@ -148,8 +145,7 @@ pub extern "C" fn hecke_act_signed_word(
         ≡ record { word = w; lent = now (element .exit); answer = now (answer .exit) } ⌝ }
 {
     let done = hecke::act_signed_word(m, q, word, element);
-    let verdict = done.verdict;
-    returned::answered(verdict, done.count, answer)
+    returned::answered(done, answer)
 }
 
 // The product of two elements of rank m; the answer is its count.
@@ -168,8 +164,7 @@ pub extern "C" fn hecke_product(
         ≡ record { word = w; lent = record { result = now (result .exit); scratch = now (scratch .exit) }; answer = now (answer .exit) } ⌝ }
 {
     let done = hecke::product(m, q, left, right, result, scratch);
-    let verdict = done.verdict;
-    returned::answered(verdict, done.count, answer)
+    returned::answered(done, answer)
 }
 
 // The pairing of two elements of rank m, which is the coefficient of the unit in their product, as the answer.
@@ -186,7 +181,7 @@ pub extern "C" fn hecke_pairing(
 {
     let paired = pairings::pairing(m, q, left, right);
     let verdict = paired.verdict;
-    returned::answered(verdict, paired.value, answer)
+    returned::valued(verdict, paired.value, answer)
 }
 
 // The check of a whole sheet.
@@ -207,8 +202,7 @@ pub extern "C" fn hecke_run_sheet(sheet: &[u8], registers: &mut [u64], answer: &
         ≡ record { word = w; lent = now (registers .exit); answer = now (answer .exit) } ⌝ }
 {
     let ran = runner::run_into(sheet, registers);
-    let verdict = ran.verdict;
-    returned::answered(verdict, ran.count, answer)
+    returned::answered(ran, answer)
 }
 
 // M, the number of words of an element of rank m; 0 above rank 6.

@@ -67,10 +67,10 @@ told-done : (n : ℕ) (xs answer : List ℕ) → told (reported Accepted n) xs a
 unfolding told
 told-done n xs answer = rw (same-yes {x = 0} refl) refl
 
-pub done-one : {r : Report} {n : ℕ} {y : List ℕ} (answer : List ℕ) → r ≡ reported Accepted n → y ≡ set answer 0 n
-    → (0 ≡ wordOf r) × (y ≡ told r (r .count ∷ []) answer)
+pub done-one : {r : Report} {n a b : ℕ} {y : List ℕ} (answer : List ℕ) → r ≡ reported Accepted n → b ≡ a → y ≡ set answer 0 a
+    → (0 ≡ wordOf r) × (y ≡ told r (b ∷ []) answer)
 unfolding wordOf
-done-one {n = n} answer e f = rw e (refl, f ∙ fill-one n answer ∙ sym (told-done n _ answer))
+done-one {n = n} {a = a} answer e g f = rw (e, g) (refl, f ∙ fill-one a answer ∙ sym (told-done n _ answer))
 
 pub done-two : {r : Report} {a b n : ℕ} {y z : List ℕ} (answer : List ℕ) → r ≡ reported Accepted n → b ≡ a → y ≡ set answer 0 a → z ≡ set y 1 n
     → (0 ≡ wordOf r) × (z ≡ told r (b ∷ r .count ∷ []) answer)
@@ -82,3 +82,10 @@ pub refused-told : {r : Report} {n w : ℕ} (why : Refusal) (xs answer : List �
 unfolding wordOf told
 refused-told why xs answer e f =
     rw e (f, sym (rw (same-no {x = refusalNumber why} {a = 0} (λ z. omega (arith, number-within why .0))) refl))
+
+-- the count is no part of the word, and says only what is told
+pub told-count : (v : Verdict) (n : ℕ) {w : ℕ} {y : List ℕ} (answer : List ℕ) → (w ≡ wordOf (verdictReport v)) × (y ≡ told (verdictReport v) (n ∷ []) answer)
+    → (w ≡ wordOf (reported v n)) × (y ≡ told (reported v n) (reported v n .count ∷ []) answer)
+unfolding wordOf told
+told-count Accepted n answer f = f
+told-count (Refused why) n answer f = f

@@ -3,12 +3,13 @@
 ghost use mathlib.Core.Path.{_≡_};
 ghost use mathlib.Core.List.{[], _∷_};
 ghost use lib.ListN.{set};
-ghost use Rattle.refusals.specs.Refusals.{verdictReport, reported};
+ghost use Rattle.refusals.specs.Refusals.{verdictReport, answerReport};
 ghost use Rattle.refusals.specs.declared.Verdict.the-variants.{Refused};
 ghost use Rattle.perm_calls.specs.Calls.{countedReport, generatorsReport, generatorsMask};
 ghost use Rattle.returned.specs.Returned.{wordOf, told};
 use perm_calls::Counted;
 use perm_calls::Generators;
+use refusals::Answer;
 use refusals::Refusal;
 use refusals::Verdict;
 
@@ -70,16 +71,26 @@ pub fn generators(generators: Generators, answer: &mut [u64]) -> u64
     }
 }
 
-// A verdict beside a count or a value, which is the answer.
-// Example: for a sum of rank 1, which counts 2, it returns 0 and answers 2.
-pub fn answered(verdict: Verdict, count: u64, answer: &mut [u64]) -> u64
-    ensures { λ w. ⌜ (w ≡ wordOf (reported verdict count)) × (now (answer .exit) ≡ told (reported verdict count) (count ∷ []) (now (answer .entry))) ⌝ }
+// A verdict, and a value as the answer.
+// Example: for a pairing that is accepted, of value 3, it returns 0 and answers 3.
+pub fn valued(verdict: Verdict, value: u64, answer: &mut [u64]) -> u64
+    ensures { λ w. ⌜ (w ≡ wordOf (verdictReport verdict)) × (now (answer .exit) ≡ told (verdictReport verdict) (value ∷ []) (now (answer .entry))) ⌝ }
 {
     match verdict {
         Verdict::Accepted => {
-            put(answer, 0, count);
+            put(answer, 0, value);
             0
         }
         Verdict::Refused(why) => refusal(why),
     }
+}
+
+// A verdict with its count, which is the answer.
+// Example: for a sum of rank 1, which counts 2, it returns 0 and answers 2.
+pub fn answered(answered: Answer, answer: &mut [u64]) -> u64
+    ensures { λ w. ⌜ (w ≡ wordOf (answerReport answered))
+        × (now (answer .exit) ≡ told (answerReport answered) (answerReport answered .count ∷ []) (now (answer .entry))) ⌝ }
+{
+    let verdict = answered.verdict;
+    valued(verdict, answered.count, answer)
 }

@@ -23,7 +23,9 @@ refused-answer : {why : Refusal} {y : List ℕ} (a : Counted) (answer : List ℕ
 refused-answer {why} a answer e g = g ∙ refused-told why (countedReport a .count ∷ []) answer (ap countedReport e) refl .1
 
 returns : tie.Need-returns
-returns c = let put = c .before .before in done-one _ (ap countedReport (put .before .before .before .counted .given .1)) (put .put .ensures)
+returns c =
+    let put = c .before .before in let is = ap countedReport (put .before .before .before .counted .given .1) in
+    done-one _ is (ap (λ r. r .count) is) (put .put .ensures)
 
 returns-2 : tie.Need-returns-2
 returns-2 c = (search (refused-word, needs), search (refused-answer, needs))
