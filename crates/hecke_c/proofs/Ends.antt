@@ -1,5 +1,5 @@
 -- What a call gives, from how it ends and what is told of its answer. Rests on the definitions alone.
-use mathlib.Core.Path.{_≡_, refl, sym, ap, _∙_}
+use mathlib.Core.Path.{_≡_, sym, ap, _∙_}
 use mathlib.Core.List.{List, [], _∷_}
 use Prim.Native.Nat.{ℕ}
 use Rattle.refusals.specs.Refusals.{Report, verdictReport, answerReport, Outcome}
