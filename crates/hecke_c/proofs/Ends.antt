@@ -1,21 +1,14 @@
 -- What a call gives, from how it ends and what is told of its answer. Rests on the definitions alone.
-use mathlib.Core.Path.{_≡_, refl, sym, ap, _∙_}
+use mathlib.Core.Path.{_≡_, sym, ap, _∙_}
 use mathlib.Core.List.{List, [], _∷_}
 use Prim.Native.Nat.{ℕ}
-use Rattle.refusals.specs.Refusals.{Report, reported, verdictReport, Outcome}
+use Rattle.refusals.specs.Refusals.{Report, verdictReport, answerReport, Outcome}
 use Rattle.refusals.specs.declared.Verdict.{Verdict}
-use Rattle.refusals.specs.declared.Verdict.the-variants.{Accepted, Refused}
 use Rattle.refusals.specs.declared.Answer.{Answer}
 use Rattle.perm_calls.specs.Calls.{countedReport}
 use Rattle.perm_calls.specs.declared.Counted.{Counted}
-use Rattle.element_calls.specs.Calls.{valuedReport}
-use Rattle.element_calls.specs.declared.Valued.{Valued}
-use Rattle.hecke_c.specs.Returned.{wordOf, told, Returned, Answered}
+use Rattle.returned.specs.Returned.{wordOf, told, Returned, Answered}
 use Rattle.hecke_c.specs.Calls.{verdictCall, countedCall, answerCall}
-
-count-is : (v : Verdict) (n : ℕ) → reported v n .count ≡ n
-count-is Accepted n = refl
-count-is (Refused why) n = refl
 
 answered : {A : Type 0} {w w' : ℕ} {y y' : List ℕ} (lent : A) → w ≡ w' → y ≡ y'
     → _≡_ {A = Answered A} (record { word = w'; lent = lent; answer = y' }) (record { word = w; lent = lent; answer = y })
@@ -35,30 +28,13 @@ module _ {A : Type 0} {w : ℕ} {lent : A} where
     counted-call e f = ap (λ o. countedCall o answer) e ∙ answered lent (f .0) (f .1)
 
     pub answer-call : {o : Outcome Answer A} {a : Answer} → o ≡ record { answer = a; lent = lent }
-        → (w ≡ wordOf (reported (a .verdict) (a .count))) × (y ≡ told (reported (a .verdict) (a .count)) (a .count ∷ []) answer)
+        → (w ≡ wordOf (answerReport a)) × (y ≡ told (answerReport a) (answerReport a .count ∷ []) answer)
         → answerCall o answer ≡ record { word = w; lent = lent; answer = y }
     unfolding answerCall
-    answer-call {a = a} e f =
-        let r = reported (a .verdict) (a .count) in
-        ap (λ o. answerCall o answer) e
-        ∙ answered lent (f .0) (f .1 ∙ ap (λ n. told r (n ∷ []) answer) (sym (count-is (a .verdict) (a .count))))
+    answer-call e f = ap (λ o. answerCall o answer) e ∙ answered lent (f .0) (f .1)
 
 -- a call that leaves nothing but its answer
 pub told-answer : {r s : Report} {xs ys : List ℕ} {w : ℕ} {y : List ℕ} (answer : List ℕ) → r ≡ s → xs ≡ ys
     → (w ≡ wordOf r) × (y ≡ told r xs answer)
     → _≡_ {A = Returned (List ℕ)} (record { word = wordOf s; lent = told s ys answer }) (record { word = w; lent = y })
 told-answer answer e g f = sym (λ i. record { word = (f .0 ∙ ap wordOf e) i; lent = (f .1 ∙ (λ j. told (e j) (g j) answer)) i })
-
--- a call whose answer is one word, and no count
-pub told-value : {a b : Valued} {w : ℕ} {y : List ℕ} (answer : List ℕ) → a ≡ b
-    → (w ≡ wordOf (reported (a .verdict) (a .value))) × (y ≡ told (reported (a .verdict) (a .value)) (a .value ∷ []) answer)
-    → _≡_ {A = Returned (List ℕ)} (record { word = wordOf (valuedReport b); lent = told (valuedReport b) (b .value ∷ []) answer })
-    (record { word = w; lent = y })
-unfolding wordOf told
-told-value {a} {b} {w} {y} answer e f =
-    told-answer {r = valuedReport a} answer (ap valuedReport e) (ap (λ c. c .value ∷ []) e) (go (a .verdict) f)
-  where
-    go : (v : Verdict) → (w ≡ wordOf (reported v (a .value))) × (y ≡ told (reported v (a .value)) (a .value ∷ []) answer)
-        → (w ≡ wordOf (verdictReport v)) × (y ≡ told (verdictReport v) (a .value ∷ []) answer)
-    go Accepted f = f
-    go (Refused why) f = f

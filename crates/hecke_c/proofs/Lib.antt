@@ -1,3 +1,2 @@
-pub mod Told
-mod Near
 mod Ends
+pub mod Words

@@ -15,7 +15,7 @@ use Rattle.element_calls.specs.Calls.{Buffers, valuedReport, sumCall, scaleCall
 use Rattle.element_calls.specs.Calls as elements
 use Rattle.sheet.specs.Check.{checkSheet}
 use Rattle.runner.specs.Run.{runCall}
-use Rattle.hecke_c.specs.Returned.{wordOf, told, Returned, Answered}
+use Rattle.returned.specs.Returned.{wordOf, told, Returned, Answered}
 
 unfoldable pub verdictCall : {A : Type 0} → Outcome Verdict A → Returned A
 verdictCall o = record { word = wordOf (verdictReport (o .answer)); lent = o .lent }

@@ -1,2 +1,2 @@
-pub mod Returned
 pub mod Calls
+pub mod Words

@@ -8,8 +8,6 @@ ghost use mathlib.Core.Path.{_≡_};
 ghost use Rattle.ranks.specs.Ranks.{size, scratchSize};
 ghost use Rattle.hecke_c.specs.Calls.{towerOfImages, imagesOfTower, towerInverse, towerProduct, towerLength, towerWord, towerDescents, sum, scale, actWord, actSignedWord, product, pairing, sheetCheck, runSheet};
 
-mod returned;
-
 // The tower of an image list.
 // Example: the images 2 3 1 give the tower 0 2; it returns 0.
 #[no_mangle]
@@ -95,8 +93,7 @@ pub extern "C" fn hecke_sum(
         ≡ record { word = w; lent = now (result .exit); answer = now (answer .exit) } ⌝ }
 {
     let done = linear::sum(m, left, right, result);
-    let verdict = done.verdict;
-    returned::answered(verdict, done.count, answer)
+    returned::answered(done, answer)
 }
 
 // An element of rank m times the word c; the answer is its count.
@@ -113,8 +110,7 @@ pub extern "C" fn hecke_scale(
         ≡ record { word = w; lent = now (result .exit); answer = now (answer .exit) } ⌝ }
 {
     let done = linear::scale(m, c, element, result);
-    let verdict = done.verdict;
-    returned::answered(verdict, done.count, answer)
+    returned::answered(done, answer)
 }
 
 // The word's generators T_i act on the element of rank m, left to right; the answer is its count.
@@ -131,8 +127,7 @@ pub extern "C" fn hecke_act_word(
         ≡ record { word = w; lent = now (element .exit); answer = now (answer .exit) } ⌝ }
 {
     let done = hecke::act_word(m, q, word, element);
-    let verdict = done.verdict;
-    returned::answered(verdict, done.count, answer)
+    returned::answered(done, answer)
 }
 
 // The word's signed letters act on the element of rank m, left to right, -i as the inverse of T_i; the answer is its count.
@@ -150,8 +145,7 @@ pub extern "C" fn hecke_act_signed_word(
         ≡ record { word = w; lent = now (element .exit); answer = now (answer .exit) } ⌝ }
 {
     let done = hecke::act_signed_word(m, q, word, element);
-    let verdict = done.verdict;
-    returned::answered(verdict, done.count, answer)
+    returned::answered(done, answer)
 }
 
 // The product of two elements of rank m; the answer is its count.
@@ -170,8 +164,7 @@ pub extern "C" fn hecke_product(
         ≡ record { word = w; lent = record { result = now (result .exit); scratch = now (scratch .exit) }; answer = now (answer .exit) } ⌝ }
 {
     let done = hecke::product(m, q, left, right, result, scratch);
-    let verdict = done.verdict;
-    returned::answered(verdict, done.count, answer)
+    returned::answered(done, answer)
 }
 
 // The pairing of two elements of rank m, which is the coefficient of the unit in their product, as the answer.
@@ -189,7 +182,7 @@ pub extern "C" fn hecke_pairing(
 {
     let paired = pairings::pairing(m, q, left, right);
     let verdict = paired.verdict;
-    returned::answered(verdict, paired.value, answer)
+    returned::valued(verdict, paired.value, answer)
 }
 
 // The check of a whole sheet.
@@ -210,8 +203,7 @@ pub extern "C" fn hecke_run_sheet(sheet: &[u8], registers: &mut [u64], answer: &
         ≡ record { word = w; lent = now (registers .exit); answer = now (answer .exit) } ⌝ }
 {
     let ran = runner::run_into(sheet, registers);
-    let verdict = ran.verdict;
-    returned::answered(verdict, ran.count, answer)
+    returned::answered(ran, answer)
 }
 
 // M, the number of words of an element of rank m; 0 above rank 6.

@@ -1,10 +1,9 @@
--- The call, and what is told of its answer. Rests on Near and Ends.
+-- The call, and what is told of its answer. Rests on Ends.
 use mathlib.Core.Path.{ap}
 use mathlib.Core.List.{[], _∷_}
 use borrow.Author.Needs.{needs}
 use Rattle.perm_calls.specs.Calls.{generatorsReport, generatorsMask}
 use Rattle.hecke_c.specs.Calls.{towerDescents}
-use Rattle.hecke_c.proofs.Near.{descents-near}
 use Rattle.hecke_c.proofs.Ends.{told-answer}
 use Rattle.hecke_c.proofs.hecke_tower_descents.Statement.{statement}
 use Rattle.hecke_c.proofs.hecke_tower_descents.Tie as tie
@@ -16,4 +15,4 @@ returns c =
     told-answer _ (ap generatorsReport is) (ap (λ a. generatorsMask a ∷ generatorsReport a .count ∷ []) is) (told .generators .ensures)
 
 pub hecke-tower-descents-spec : {M : Type 1} → statement M
-hecke-tower-descents-spec = tie.close (tie.spec (λ c κs. search needs) (λ c κs. search (descents-near, needs)) (λ c. search needs) returns)
+hecke-tower-descents-spec = tie.close (tie.spec (λ c κs. search needs) (λ c κs. search needs) (λ c. search needs) returns)

@@ -1,15 +1,10 @@
 -- By the cases of the answer. Rests on Told.
-use mathlib.Core.Path.{ap, subst}
-use Prim.Native.Nat.{_≤_}
+use mathlib.Core.Path.{ap}
 use borrow.Author.Needs.{needs}
 use Rattle.perm_calls.specs.Calls.{generatorsReport, generatorsMask}
-use Rattle.hecke_c.proofs.Told.{done-two, refused-told}
-use Rattle.hecke_c.proofs.returned.generators.Statement.{statement}
-use Rattle.hecke_c.proofs.returned.generators.Tie as tie
-
-refusal-requires : tie.Need-refusal-requires
-refusal-requires c κs = let told = c .before in
-    subst (λ a. generatorsReport a .place ≤ 4096) (told .generators2 .given .1) (told .before .before .before .pre)
+use Rattle.returned.proofs.Told.{done-two, refused-told}
+use Rattle.returned.proofs.generators.Statement.{statement}
+use Rattle.returned.proofs.generators.Tie as tie
 
 returns : tie.Need-returns
 returns c =
@@ -22,4 +17,4 @@ returns-2 c = let told = c .before .before .generators2 .given in refused-told (
 pub generators-spec : {M : Type 1} → statement M
 generators-spec =
     tie.close
-    (tie.spec (λ c. search needs) (λ c κs. search needs) (λ c. search needs) (λ c κs. search needs) (λ c. search needs) refusal-requires (λ c. search needs) returns returns-2)
+    (tie.spec (λ c. search needs) (λ c κs. search needs) (λ c. search needs) (λ c κs. search needs) (λ c. search needs) (λ c κs. search needs) (λ c. search needs) returns returns-2)

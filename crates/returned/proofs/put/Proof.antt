@@ -2,9 +2,9 @@
 use native.Mathlib.Omega.{arith}
 use mathlib.Core.Path.{sym}
 use borrow.Author.Needs.{needs}
-use Rattle.hecke_c.proofs.Told.{set-past}
-use Rattle.hecke_c.proofs.returned.put.Statement.{statement}
-use Rattle.hecke_c.proofs.returned.put.Tie as tie
+use Rattle.returned.proofs.Told.{set-past}
+use Rattle.returned.proofs.put.Statement.{statement}
+use Rattle.returned.proofs.put.Tie as tie
 
 returns-2 : tie.Need-returns-2
 returns-2 c = sym (set-past _ _ _ (omega arith))
