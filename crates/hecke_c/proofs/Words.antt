@@ -8,12 +8,13 @@ use Rattle.sheet.specs.Check.{checkSheet}
 use Rattle.sheet.proofs.Table.{exactly}
 use Rattle.runner.specs.Run.{runCall}
 use Rattle.runner.proofs.Runs.{runs}
+use Rattle.returned.specs.Returned.{returns}
 use Rattle.returned.proofs.Told.{verdict-tells, answer-tells, counted-tells, generators-tells}
 use Rattle.hecke_c.specs.Calls.{verdictCall, countedCall, answerCall, towerLength, towerDescents, pairing, sheetCheck}
 use Rattle.hecke_c.specs.Words.{Words}
 
 pub words : Words
-unfolding verdictCall countedCall answerCall towerLength towerDescents pairing sheetCheck
+unfolding verdictCall countedCall answerCall towerLength towerDescents pairing sheetCheck returns
 words = record {
   tower-of-images = λ w tower. verdict-tells (P.towerOfCall w tower .answer) (perms.refusals .tower-of w tower .refuses);
   images-of-tower = λ t images. verdict-tells (P.imagesOfCall t images .answer) (perms.refusals .images-of t images .refuses);

@@ -15,7 +15,7 @@ use Rattle.element_calls.specs.Calls.{Buffers, valuedReport, sumCall, scaleCall
 use Rattle.element_calls.specs.Calls as elements
 use Rattle.sheet.specs.Check.{checkSheet}
 use Rattle.runner.specs.Run.{runCall}
-use Rattle.returned.specs.Returned.{wordOf, told, Returned, Answered}
+use Rattle.returned.specs.Returned.{wordOf, told, Returned, Answered, returns}
 
 unfoldable pub verdictCall : {A : Type 0} → Outcome Verdict A → Returned A
 verdictCall o = record { word = wordOf (verdictReport (o .answer)); lent = o .lent }
@@ -41,7 +41,7 @@ abbrev pub towerProduct : (left right result : List ℕ) → Returned (List ℕ)
 towerProduct left right result = verdictCall (productCall left right result)
 
 unfoldable pub towerLength : (tower answer : List ℕ) → Returned (List ℕ)
-towerLength tower answer = let r = countedReport (lengthCall tower) in record { word = wordOf r; lent = told r (r .count ∷ []) answer }
+towerLength tower answer = let r = countedReport (lengthCall tower) in returns r (r .count ∷ []) answer
 
 abbrev pub towerWord : (tower word answer : List ℕ) → Answered (List ℕ)
 towerWord tower word answer = countedCall (standardWordCall tower word) answer
@@ -50,7 +50,7 @@ towerWord tower word answer = countedCall (standardWordCall tower word) answer
 unfoldable pub towerDescents : (tower answer : List ℕ) → Returned (List ℕ)
 towerDescents tower answer =
     let r = generatorsReport (descentsCall tower) in
-    record { word = wordOf r; lent = told r (generatorsMask (descentsCall tower) ∷ r .count ∷ []) answer }
+    returns r (generatorsMask (descentsCall tower) ∷ r .count ∷ []) answer
 
 -- ---- elements
 
@@ -72,8 +72,7 @@ product m q left right result scratch answer = answerCall (elements.productCall 
 unfoldable pub pairing : (m q : ℕ) (left right answer : List ℕ) → Returned (List ℕ)
 pairing m q left right answer =
     let a = pairingCall m q left right in
-    let r = valuedReport a in
-    record { word = wordOf r; lent = told r (a .value ∷ []) answer }
+    returns (valuedReport a) (a .value ∷ []) answer
 
 -- ---- sheets
 

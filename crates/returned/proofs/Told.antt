@@ -17,7 +17,7 @@ use Rattle.perm_calls.specs.declared.Counted.{Counted}
 use Rattle.perm_calls.specs.declared.Counted.the-variants as C
 use Rattle.perm_calls.specs.declared.Generators.{Generators}
 use Rattle.perm_calls.specs.declared.Generators.the-variants as G
-use Rattle.returned.specs.Returned.{wordOf, fill, told, Tells}
+use Rattle.returned.specs.Returned.{wordOf, fill, told, Tells, Returned, returns}
 
 -- ---- words at the front of an answer
 
@@ -67,25 +67,33 @@ told-done : (n : ℕ) (xs answer : List ℕ) → told (reported Accepted n) xs a
 unfolding told
 told-done n xs answer = rw (same-yes {x = 0} refl) refl
 
+pub joined : (r : Report) (xs answer : List ℕ) {w : ℕ} {y : List ℕ} → w ≡ wordOf r → y ≡ told r xs answer
+    → returns r xs answer ≡ record { word = w; lent = y }
+unfolding returns
+joined r xs answer e f = λ i. record { word = sym e i; lent = sym f i }
+
 pub done-one : {r : Report} {n a b : ℕ} {y : List ℕ} (answer : List ℕ) → r ≡ reported Accepted n → b ≡ a → y ≡ set answer 0 a
-    → (0 ≡ wordOf r) × (y ≡ told r (b ∷ []) answer)
+    → returns r (b ∷ []) answer ≡ record { word = 0; lent = y }
 unfolding wordOf
-done-one {n = n} {a = a} answer e g f = rw (e, g) (refl, f ∙ fill-one a answer ∙ sym (told-done n _ answer))
+done-one {n = n} {a = a} answer e g f = rw (e, g) (joined _ _ answer refl (f ∙ fill-one a answer ∙ sym (told-done n _ answer)))
 
 pub done-two : {r : Report} {a b n : ℕ} {y z : List ℕ} (answer : List ℕ) → r ≡ reported Accepted n → b ≡ a → y ≡ set answer 0 a → z ≡ set y 1 n
-    → (0 ≡ wordOf r) × (z ≡ told r (b ∷ r .count ∷ []) answer)
+    → returns r (b ∷ r .count ∷ []) answer ≡ record { word = 0; lent = z }
 unfolding wordOf
-done-two {a = a} {n = n} answer e g f h = rw (e, g) (refl, h ∙ ap (λ y. set y 1 n) f ∙ fill-two a n answer ∙ sym (told-done n _ answer))
+done-two {a = a} {n = n} answer e g f h =
+    rw (e, g) (joined _ _ answer refl (h ∙ ap (λ y. set y 1 n) f ∙ fill-two a n answer ∙ sym (told-done n _ answer)))
 
-pub refused-told : {r : Report} {n w : ℕ} (why : Refusal) (xs answer : List ℕ) → r ≡ reported (Refused why) n
-    → w ≡ wordOf (verdictReport (Refused why)) → (w ≡ wordOf r) × (answer ≡ told r xs answer)
-unfolding wordOf told
-refused-told why xs answer e f =
-    rw e (f, sym (rw (same-no {x = refusalNumber why} {a = 0} (λ z. omega (arith, number-within why .0))) refl))
+pub refused-word : {r : Report} {n w : ℕ} (why : Refusal) → r ≡ reported (Refused why) n → w ≡ wordOf (verdictReport (Refused why)) → w ≡ wordOf r
+unfolding wordOf
+refused-word why e f = rw e f
+
+pub refused-told : {r : Report} {n : ℕ} (why : Refusal) (xs answer : List ℕ) → r ≡ reported (Refused why) n → answer ≡ told r xs answer
+unfolding told
+refused-told why xs answer e = rw e (sym (rw (same-no {x = refusalNumber why} {a = 0} (λ z. omega (arith, number-within why .0))) refl))
 
 -- the count is no part of the word, and says only what is told
-pub told-count : (v : Verdict) (n : ℕ) {w : ℕ} {y : List ℕ} (answer : List ℕ) → (w ≡ wordOf (verdictReport v)) × (y ≡ told (verdictReport v) (n ∷ []) answer)
-    → (w ≡ wordOf (reported v n)) × (y ≡ told (reported v n) (reported v n .count ∷ []) answer)
-unfolding wordOf told
+pub told-count : (v : Verdict) (n : ℕ) {x : Returned (List ℕ)} (answer : List ℕ) → returns (verdictReport v) (n ∷ []) answer ≡ x
+    → returns (reported v n) (reported v n .count ∷ []) answer ≡ x
+unfolding returns wordOf told
 told-count Accepted n answer f = f
 told-count (Refused why) n answer f = f

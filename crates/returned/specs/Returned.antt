@@ -6,6 +6,7 @@
 --   Tells w r             the word w tells the number and the place of the report r
 --   Returned A            the word, and what is lent, as the call leaves it
 --   Answered A            the same with the answer
+--   returns r xs answer   what is returned and answered for the report r and the words xs
 use mathlib.Core.Path.{_≡_}
 use mathlib.Core.Bool.{cond}
 use mathlib.Core.List.{List, [], _∷_}
@@ -37,3 +38,6 @@ pub record Answered (A : Type 0) : Type 0 where
   pub word : ℕ
   pub lent : A
   pub answer : List ℕ
+
+unfoldable pub returns : Report → List ℕ → List ℕ → Returned (List ℕ)
+returns r xs answer = record { word = wordOf r; lent = told r xs answer }

@@ -6,7 +6,7 @@ ghost use lib.ListN.{set};
 ghost use Rattle.refusals.specs.Refusals.{verdictReport, answerReport};
 ghost use Rattle.refusals.specs.declared.Verdict.the-variants.{Refused};
 ghost use Rattle.perm_calls.specs.Calls.{countedReport, generatorsReport, generatorsMask};
-ghost use Rattle.returned.specs.Returned.{wordOf, told};
+ghost use Rattle.returned.specs.Returned.{wordOf, returns};
 use perm_calls::Counted;
 use perm_calls::Generators;
 use refusals::Answer;
@@ -43,8 +43,8 @@ pub fn verdict(verdict: Verdict) -> u64
 // A number, as the answer.
 // Example: for the length 2 it returns 0 and answers 2.
 pub fn counted(counted: Counted, answer: &mut [u64]) -> u64
-    ensures { λ w. ⌜ (w ≡ wordOf (countedReport counted))
-        × (now (answer .exit) ≡ told (countedReport counted) (countedReport counted .count ∷ []) (now (answer .entry))) ⌝ }
+    ensures { λ w. ⌜ returns (countedReport counted) (countedReport counted .count ∷ []) (now (answer .entry))
+        ≡ record { word = w; lent = now (answer .exit) } ⌝ }
 {
     match counted {
         Counted::Count(n) => {
@@ -58,8 +58,8 @@ pub fn counted(counted: Counted, answer: &mut [u64]) -> u64
 // A set of generators: the answer is its mask and the number of its set bits.
 // Example: for the generator 2 alone it returns 0 and answers 2 1.
 pub fn generators(generators: Generators, answer: &mut [u64]) -> u64
-    ensures { λ w. ⌜ (w ≡ wordOf (generatorsReport generators))
-        × (now (answer .exit) ≡ told (generatorsReport generators) (generatorsMask generators ∷ generatorsReport generators .count ∷ []) (now (answer .entry))) ⌝ }
+    ensures { λ w. ⌜ returns (generatorsReport generators) (generatorsMask generators ∷ generatorsReport generators .count ∷ []) (now (answer .entry))
+        ≡ record { word = w; lent = now (answer .exit) } ⌝ }
 {
     match generators {
         Generators::Set { mask, count } => {
@@ -74,7 +74,7 @@ pub fn generators(generators: Generators, answer: &mut [u64]) -> u64
 // A verdict, and a value as the answer.
 // Example: for a pairing that is accepted, of value 3, it returns 0 and answers 3.
 pub fn valued(verdict: Verdict, value: u64, answer: &mut [u64]) -> u64
-    ensures { λ w. ⌜ (w ≡ wordOf (verdictReport verdict)) × (now (answer .exit) ≡ told (verdictReport verdict) (value ∷ []) (now (answer .entry))) ⌝ }
+    ensures { λ w. ⌜ returns (verdictReport verdict) (value ∷ []) (now (answer .entry)) ≡ record { word = w; lent = now (answer .exit) } ⌝ }
 {
     match verdict {
         Verdict::Accepted => {
@@ -88,8 +88,8 @@ pub fn valued(verdict: Verdict, value: u64, answer: &mut [u64]) -> u64
 // A verdict with its count, which is the answer.
 // Example: for a sum of rank 1, which counts 2, it returns 0 and answers 2.
 pub fn answered(answered: Answer, answer: &mut [u64]) -> u64
-    ensures { λ w. ⌜ (w ≡ wordOf (answerReport answered))
-        × (now (answer .exit) ≡ told (answerReport answered) (answerReport answered .count ∷ []) (now (answer .entry))) ⌝ }
+    ensures { λ w. ⌜ returns (answerReport answered) (answerReport answered .count ∷ []) (now (answer .entry))
+        ≡ record { word = w; lent = now (answer .exit) } ⌝ }
 {
     let verdict = answered.verdict;
     valued(verdict, answered.count, answer)

@@ -1,5 +1,5 @@
 -- By the cases of the answer. Rests on Told.
-use mathlib.Core.Path.{_≡_, refl, ap, _∙_}
+use mathlib.Core.Path.{_≡_, ap, _∙_}
 use mathlib.Core.List.{List, [], _∷_}
 use Prim.Native.Nat.{ℕ}
 use borrow.Author.Needs.{needs}
@@ -10,17 +10,17 @@ use Rattle.perm_calls.specs.Calls.{countedReport}
 use Rattle.perm_calls.specs.declared.Counted.{Counted}
 use Rattle.perm_calls.specs.declared.Counted.the-variants.{Refused}
 use Rattle.returned.specs.Returned.{wordOf, told}
-use Rattle.returned.proofs.Told.{done-one, refused-told}
+use Rattle.returned.proofs.Told.{joined, done-one, refused-word, refused-told}
 use Rattle.returned.proofs.counted.Statement.{statement}
 use Rattle.returned.proofs.counted.Tie as tie
 
-refused-word : {why : Refusal} {w : ℕ} (a : Counted) → a ≡ Refused why → w ≡ wordOf (verdictReport (Verdict.Refused why)) → w ≡ wordOf (countedReport a)
-refused-word {why} a e f = refused-told why [] [] (ap countedReport e) f .0
+word : {why : Refusal} {w : ℕ} (a : Counted) → a ≡ Refused why → w ≡ wordOf (verdictReport (Verdict.Refused why)) → w ≡ wordOf (countedReport a)
+word {why} a e f = refused-word why (ap countedReport e) f
 
 -- the answer is then as it was
-refused-answer : {why : Refusal} {y : List ℕ} (a : Counted) (answer : List ℕ) → a ≡ Refused why → y ≡ answer
+unchanged : {why : Refusal} {y : List ℕ} (a : Counted) (answer : List ℕ) → a ≡ Refused why → y ≡ answer
     → y ≡ told (countedReport a) (countedReport a .count ∷ []) answer
-refused-answer {why} a answer e g = g ∙ refused-told why (countedReport a .count ∷ []) answer (ap countedReport e) refl .1
+unchanged {why} a answer e g = g ∙ refused-told why (countedReport a .count ∷ []) answer (ap countedReport e)
 
 returns : tie.Need-returns
 returns c =
@@ -28,7 +28,7 @@ returns c =
     done-one _ is (ap (λ r. r .count) is) (put .put .ensures)
 
 returns-2 : tie.Need-returns-2
-returns-2 c = (search (refused-word, needs), search (refused-answer, needs))
+returns-2 c = joined _ _ _ (search (word, needs)) (search (unchanged, needs))
 
 pub counted-spec : {M : Type 1} → statement M
 counted-spec =

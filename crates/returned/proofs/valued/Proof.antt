@@ -2,7 +2,7 @@
 use mathlib.Core.Path.{refl, ap}
 use borrow.Author.Needs.{needs}
 use Rattle.refusals.specs.Refusals.{verdictReport}
-use Rattle.returned.proofs.Told.{done-one, refused-told}
+use Rattle.returned.proofs.Told.{joined, done-one, refused-word, refused-told}
 use Rattle.returned.proofs.valued.Statement.{statement}
 use Rattle.returned.proofs.valued.Tie as tie
 
@@ -12,7 +12,8 @@ returns c = let put = c .before .before in done-one _ (ap verdictReport (put .be
 returns-2 : tie.Need-returns-2
 returns-2 c =
     let told = c .before .before .verdict .given in
-    refused-told (told .0 .0) _ _ (ap verdictReport (told .1)) (c .refusal .ensures)
+    let is = ap verdictReport (told .1) in
+    joined _ _ _ (refused-word (told .0 .0) is (c .refusal .ensures)) (refused-told (told .0 .0) _ _ is)
 
 pub valued-spec : {M : Type 1} → statement M
 valued-spec =
