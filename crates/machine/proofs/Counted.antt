@@ -15,8 +15,9 @@ use Rattle.sheet_format.specs.declared.Command.the-variants.{Change}
 use Rattle.sheet.specs.Check.{inRange}
 use Rattle.sheet.proofs.InRange.{low, within}
 use Rattle.sheet.proofs.Allowed.{in-range, has-inverse}
+use Rattle.costs.specs.Costs.{updateCost, cost}
 use Rattle.machine.specs.Registers.{element, put}
-use Rattle.machine.specs.Step.{updated, obey, updateCost, cost}
+use Rattle.machine.specs.Step.{updated, obey}
 use Rattle.machine.specs.Counted.{Words, Obeying, Counted}
 use Rattle.machine.proofs.Put.{Part, words-element}
 use Rattle.machine.proofs.Taken.{Took, act-taken, scale-taken, sum-taken, product-taken}

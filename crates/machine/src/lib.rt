@@ -11,10 +11,7 @@ use sheet_format::Command;
 use sheet_format::Header;
 use sheet_format::Update;
 
-mod counting;
 mod registers;
-
-pub use counting::cost;
 
 // The answer of one command.
 pub enum Stepped {
@@ -70,5 +67,5 @@ pub fn step(x: &mut [u64], header: Header, command: Command) -> Stepped
         return Stepped::NotObeyed;
     }
     obey(x, header, command);
-    Stepped::Obeyed(cost(header.rank, command))
+    Stepped::Obeyed(costs::cost(header.rank, command))
 }

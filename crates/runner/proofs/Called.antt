@@ -12,7 +12,8 @@ use Rattle.sheet_format.specs.declared.Command.{Command}
 use Rattle.sheet_format.specs.declared.Decoded.the-variants.{Found}
 use Rattle.sheet.specs.Check.{mayRun}
 use Rattle.sheet.proofs.Allowed.{in-range}
-use Rattle.machine.specs.Step.{cost, costCall, stepCall}
+use Rattle.costs.specs.Costs.{cost, costCall}
+use Rattle.machine.specs.Step.{stepCall}
 use Rattle.machine.specs.declared.Stepped.{Stepped}
 use Rattle.machine.specs.declared.Stepped.the-variants.{Obeyed, NotObeyed}
 use Rattle.runner.specs.Turn.{fits, obeys, onward, turnOf}

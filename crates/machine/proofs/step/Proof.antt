@@ -8,7 +8,8 @@ use lib.ListN.{length}
 use Rattle.lists.proofs.Test.{same-yes, same-no, not-false}
 use Rattle.sheet.specs.Check.{mayRun}
 use Rattle.sheet.proofs.Allowed.{in-range}
-use Rattle.machine.specs.Step.{cost, costCall, stepCall}
+use Rattle.costs.specs.Costs.{cost, costCall}
+use Rattle.machine.specs.Step.{stepCall}
 use Rattle.machine.specs.declared.Stepped.the-variants.{Obeyed}
 use Rattle.machine.proofs.step.Statement.{statement}
 use Rattle.machine.proofs.step.Tie as tie

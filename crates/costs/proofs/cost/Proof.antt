@@ -6,9 +6,9 @@ use borrow.Author.Tests.{not-true}
 use Rattle.lists.proofs.Test.{not-false}
 use Rattle.sheet.specs.Check.{inRange}
 use Rattle.sheet.proofs.InRange.{low}
-use Rattle.machine.specs.Step.{cost, costCall}
-use Rattle.machine.proofs.counting.cost.Statement.{statement}
-use Rattle.machine.proofs.counting.cost.Tie as tie
+use Rattle.costs.specs.Costs.{cost, costCall}
+use Rattle.costs.proofs.cost.Statement.{statement}
+use Rattle.costs.proofs.cost.Tie as tie
 
 ranged : (c : tie.Else1) → let u = c .before .before .args in inRange (u .rank) (u .command) ≡ true
 ranged c = sym (c .before .in-range .ensures) ∙ not-false _ (c .if1 .left)

@@ -2,7 +2,7 @@
 
 ghost use mathlib.Core.Path.{_≡_};
 ghost use Prim.Native.Nat.{_≤_};
-ghost use Rattle.machine.specs.Step.{updateCost, costCall};
+ghost use Rattle.costs.specs.Costs.{updateCost, costCall};
 use sheet_format::Command;
 use sheet_format::Update;
 

@@ -10,7 +10,7 @@ use Rattle.sheet_format.specs.declared.Update.{Update}
 use Rattle.sheet_format.specs.declared.Update.the-variants.{Unit, Set, Letter, InverseLetter, Product, Sum, Scale}
 use Rattle.sheet_format.specs.declared.Command.{Command}
 use Rattle.sheet_format.specs.declared.Command.the-variants.{End, Begin, Change, Show}
-use Rattle.machine.specs.Step.{updateCost, cost}
+use Rattle.costs.specs.Costs.{updateCost, cost}
 
 none : first (λ m. less 2027640 (C m m)) 0 6 ≡ 6
 unfolding first less factorial series cLine c C

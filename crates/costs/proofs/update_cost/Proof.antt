@@ -6,9 +6,9 @@ use borrow.Author.Needs.{needs}
 use Rattle.lists.specs.Numbers.{factorial}
 use Rattle.algebra.specs.Cost.{C}
 use Rattle.ranks.proofs.Sizes.{size-is, product-count-is, sheet-size-small}
-use Rattle.machine.specs.Step.{updateCost}
-use Rattle.machine.proofs.counting.update_cost.Statement.{statement}
-use Rattle.machine.proofs.counting.update_cost.Tie as tie
+use Rattle.costs.specs.Costs.{updateCost}
+use Rattle.costs.proofs.update_cost.Statement.{statement}
+use Rattle.costs.proofs.update_cost.Tie as tie
 
 -- ---- the two counts that the arms answer with
 
