@@ -11,7 +11,7 @@ use Rattle.sheet_format.specs.declared.Update.{Update}
 use Rattle.sheet_format.specs.declared.Update.the-variants.{Unit, Set, Letter, InverseLetter, Product, Sum, Scale}
 use Rattle.sheet_format.specs.declared.Command.{Command}
 use Rattle.sheet_format.specs.declared.Command.the-variants.{End, Begin, Change, Show}
-use Rattle.sheet.specs.Check.{inRange}
+use Rattle.operands.specs.Operands.{inRange}
 
 unfoldable pub updateCost : ℕ → Update → ℕ
 updateCost m (Unit r) = 0

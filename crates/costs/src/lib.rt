@@ -31,7 +31,7 @@ fn update_cost(m: usize, update: Update) -> u64
 pub fn cost(rank: usize, command: Command) -> u64
     ensures { λ r. ⌜ r ≡ costCall rank command ⌝ }
 {
-    if !sheet::in_range(rank, command) {
+    if !operands::in_range(rank, command) {
         return 0;
     }
     match command {

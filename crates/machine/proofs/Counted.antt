@@ -1,4 +1,4 @@
--- Obeying a command is a call of the library: the claim `Counted`. Rests on Put, Taken, InverseTaken, and sheet's InRange and
+-- Obeying a command is a call of the library: the claim `Counted`. Rests on Put, Taken, InverseTaken, and operands' InRange and
 -- Allowed.
 use mathlib.Core.Path.{_≡_, refl, sym, ap, _∙_}
 use mathlib.Core.Bool.{true}
@@ -12,9 +12,9 @@ use Rattle.sheet_format.specs.declared.Header.{Header}
 use Rattle.sheet_format.specs.declared.Update.the-variants as U
 use Rattle.sheet_format.specs.declared.Command.{Command}
 use Rattle.sheet_format.specs.declared.Command.the-variants.{Change}
-use Rattle.sheet.specs.Check.{inRange}
-use Rattle.sheet.proofs.InRange.{low, within}
-use Rattle.sheet.proofs.Allowed.{in-range, has-inverse}
+use Rattle.operands.specs.Operands.{inRange}
+use Rattle.operands.proofs.InRange.{low, within}
+use Rattle.operands.proofs.Allowed.{in-range, has-inverse}
 use Rattle.costs.specs.Costs.{updateCost, cost}
 use Rattle.machine.specs.Registers.{element, put}
 use Rattle.machine.specs.Step.{updated, obey}

@@ -22,7 +22,7 @@ use Rattle.sheet_format.specs.declared.Update.{Update}
 use Rattle.sheet_format.specs.declared.Update.the-variants.{Unit, Set, Letter, InverseLetter, Product, Sum, Scale}
 use Rattle.sheet_format.specs.declared.Command.{Command}
 use Rattle.sheet_format.specs.declared.Command.the-variants.{End, Begin, Change, Show}
-use Rattle.sheet.specs.Check.{mayRun}
+use Rattle.operands.specs.Operands.{mayRun}
 use Rattle.costs.specs.Costs.{cost}
 use Rattle.machine.specs.Registers.{element, put, zeros}
 use Rattle.machine.specs.declared.Stepped.{Stepped}

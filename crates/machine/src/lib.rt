@@ -4,7 +4,7 @@ ghost use mathlib.Core.Path.{_≡_};
 ghost use mathlib.Core.Bool.{true};
 ghost use lib.ListN.{length};
 ghost use Rattle.sheet_format.specs.declared.Command.the-variants.{Change};
-ghost use Rattle.sheet.specs.Check.{mayRun};
+ghost use Rattle.operands.specs.Operands.{mayRun};
 ghost use Rattle.machine.specs.Steps.{Registers};
 ghost use Rattle.machine.specs.Step.{updated, obey, stepCall};
 use sheet_format::Command;
@@ -63,7 +63,7 @@ pub fn step(x: &mut [u64], header: Header, command: Command) -> Stepped
     if x.len() != 2880 {
         return Stepped::NotObeyed;
     }
-    if !sheet::may_run(header, command) {
+    if !operands::may_run(header, command) {
         return Stepped::NotObeyed;
     }
     obey(x, header, command);

@@ -19,10 +19,11 @@ use Rattle.sheet_format.specs.declared.Command.{Command}
 use Rattle.sheet_format.specs.declared.Command.the-variants.{End, Begin, Change, Show}
 use Rattle.sheet_format.specs.declared.Decoded.the-variants.{Found}
 use Rattle.sheet_format.proofs.Offsets.{found-within}
-use Rattle.sheet.specs.Check.{isEnd, inRange, mayRun}
-use Rattle.sheet.proofs.InRange.{low}
+use Rattle.operands.specs.Operands.{inRange, mayRun}
+use Rattle.operands.proofs.InRange.{low}
+use Rattle.operands.proofs.Allowed.{in-range}
+use Rattle.sheet.specs.Check.{isEnd}
 use Rattle.sheet.proofs.CheckFrom.{checkFrom}
-use Rattle.sheet.proofs.Allowed.{in-range}
 use Rattle.sheet.proofs.Accepted.{Next, accepted-start, accepted-next}
 use Rattle.costs.specs.Costs.{cost}
 use Rattle.costs.proofs.Costs.{cost-small}

@@ -1,11 +1,11 @@
--- Out of range it is 0; else each arm is the definition's line for its kind of command. Rests on sheet's InRange.
+-- Out of range it is 0; else each arm is the definition's line for its kind of command. Rests on operands' InRange.
 use mathlib.Core.Path.{_≡_, refl, sym, _∙_}
 use mathlib.Core.Bool.{true}
 use borrow.Author.Needs.{needs}
 use borrow.Author.Tests.{not-true}
 use Rattle.lists.proofs.Test.{not-false}
-use Rattle.sheet.specs.Check.{inRange}
-use Rattle.sheet.proofs.InRange.{low}
+use Rattle.operands.specs.Operands.{inRange}
+use Rattle.operands.proofs.InRange.{low}
 use Rattle.costs.specs.Costs.{cost, costCall}
 use Rattle.costs.proofs.cost.Statement.{statement}
 use Rattle.costs.proofs.cost.Tie as tie
