@@ -1,4 +1,4 @@
--- Obeying a command is a call of the library: the claim `Counted`. Rests on Put, Taken, InverseTaken, and sheet's InRange and
+-- Obeying a command is a call of the library: the claim `Counted`. Rests on Put, Taken, InverseTaken, and operands' InRange and
 -- Allowed.
 use mathlib.Core.Path.{_≡_, refl, sym, ap, _∙_}
 use mathlib.Core.Bool.{true}
@@ -12,11 +12,12 @@ use Rattle.sheet_format.specs.declared.Header.{Header}
 use Rattle.sheet_format.specs.declared.Update.the-variants as U
 use Rattle.sheet_format.specs.declared.Command.{Command}
 use Rattle.sheet_format.specs.declared.Command.the-variants.{Change}
-use Rattle.sheet.specs.Check.{inRange}
-use Rattle.sheet.proofs.InRange.{low, within}
-use Rattle.sheet.proofs.Allowed.{in-range, has-inverse}
+use Rattle.operands.specs.Operands.{inRange}
+use Rattle.operands.proofs.InRange.{low, within}
+use Rattle.operands.proofs.Allowed.{in-range, has-inverse}
+use Rattle.costs.specs.Costs.{updateCost, cost}
 use Rattle.machine.specs.Registers.{element, put}
-use Rattle.machine.specs.Step.{updated, obey, updateCost, cost}
+use Rattle.machine.specs.Step.{updated, obey}
 use Rattle.machine.specs.Counted.{Words, Obeying, Counted}
 use Rattle.machine.proofs.Put.{Part, words-element}
 use Rattle.machine.proofs.Taken.{Took, act-taken, scale-taken, sum-taken, product-taken}

@@ -3,5 +3,4 @@ mod Unit
 mod Taken
 mod InverseTaken
 mod NegatedLetter
-pub mod Costs
 pub mod Counted

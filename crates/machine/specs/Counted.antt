@@ -21,9 +21,10 @@ use Rattle.sheet_format.specs.declared.Update.the-variants.{Unit, Set, Letter, 
 use Rattle.sheet_format.specs.declared.Query.{Query}
 use Rattle.sheet_format.specs.declared.Command.{Command}
 use Rattle.sheet_format.specs.declared.Command.the-variants.{End, Begin, Change, Show}
-use Rattle.sheet.specs.Check.{inRange, mayRun}
+use Rattle.operands.specs.Operands.{inRange, mayRun}
+use Rattle.costs.specs.Costs.{cost}
 use Rattle.machine.specs.Registers.{element, put}
-use Rattle.machine.specs.Step.{obey, cost}
+use Rattle.machine.specs.Step.{obey}
 
 abbrev pub Words : List ℕ → Type 0
 Words x = All (λ n. n < 2 ^ 64) x

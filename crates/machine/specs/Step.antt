@@ -2,24 +2,19 @@
 --
 --   updated h u x        the words of the registers after the update u, in a sheet that begins with the header h
 --   obey h c x           the same after any command
---   updateCost m u       the ring operations that an update counts at rank m
---   cost m c             the same for any command, if it is obeyed
---   costCall m c         the same, and 0 where the command is not in range (whether q has an inverse is not judged here)
 --   stepReport a         number, place and count of an answer: neither document has a number for a command that is not obeyed
 --   stepCall h c x       one command on lent registers: the answer with the count, and the registers; nothing is done where an operand is out of range,
 --                        where an inverse letter stands and q has no inverse, or where the registers are not 4 × 720 words
 use mathlib.Core.Bool.{cond, _&&_}
 use mathlib.Core.List.{List, [], _∷_}
-use Prim.Native.Nat.{ℕ, suc, _*_, _/_}
+use Prim.Native.Nat.{ℕ}
 use lib.ListN.{length, set}
 use Rattle.ring.specs.Modular.{words}
 use Rattle.lists.specs.Lists.{same}
-use Rattle.lists.specs.Numbers.{factorial}
 use Rattle.refusals.specs.Refusals.{Report, reported, Outcome}
 use Rattle.refusals.specs.declared.Verdict.the-variants.{Accepted}
 use Rattle.algebra.specs.Element.{plus, scale, unit}
 use Rattle.algebra.specs.Product.{act, times}
-use Rattle.algebra.specs.Cost.{C}
 use Rattle.signed_words.specs.InverseLetter.{inverseLetter}
 use Rattle.element_calls.specs.Coefficients.{ring, parametersOf, inverseParameters}
 use Rattle.sheet_format.specs.declared.Header.{Header}
@@ -27,7 +22,8 @@ use Rattle.sheet_format.specs.declared.Update.{Update}
 use Rattle.sheet_format.specs.declared.Update.the-variants.{Unit, Set, Letter, InverseLetter, Product, Sum, Scale}
 use Rattle.sheet_format.specs.declared.Command.{Command}
 use Rattle.sheet_format.specs.declared.Command.the-variants.{End, Begin, Change, Show}
-use Rattle.sheet.specs.Check.{inRange, mayRun}
+use Rattle.operands.specs.Operands.{mayRun}
+use Rattle.costs.specs.Costs.{cost}
 use Rattle.machine.specs.Registers.{element, put, zeros}
 use Rattle.machine.specs.declared.Stepped.{Stepped}
 use Rattle.machine.specs.declared.Stepped.the-variants.{Obeyed, NotObeyed}
@@ -51,24 +47,6 @@ obey h End x = x
 obey h (Begin b) x = let z = zeros (h .rank) in put 3 z (put 2 z (put 1 z (put 0 z x)))
 obey h (Change u) x = updated h u x
 obey h (Show w) x = x
-
-unfoldable pub updateCost : ℕ → Update → ℕ
-updateCost m (Unit r) = 0
-updateCost m (Set r i v) = 0
-updateCost m (Letter r i) = 3 * factorial (suc m) / 2
-updateCost m (InverseLetter r i) = 3 * factorial (suc m) / 2
-updateCost m (Product d a b) = C m m
-updateCost m (Sum d a b) = factorial (suc m)
-updateCost m (Scale r v) = factorial (suc m)
-
-unfoldable pub cost : ℕ → Command → ℕ
-cost m End = 0
-cost m (Begin b) = 0
-cost m (Change u) = updateCost m u
-cost m (Show w) = 0
-
-unfoldable pub costCall : ℕ → Command → ℕ
-costCall m c = cond (inRange m c) (cost m c) 0
 
 abbrev pub stepReport : Stepped → Report
 stepReport (Obeyed n) = reported Accepted n

@@ -4,17 +4,14 @@ ghost use mathlib.Core.Path.{_≡_};
 ghost use mathlib.Core.Bool.{true};
 ghost use lib.ListN.{length};
 ghost use Rattle.sheet_format.specs.declared.Command.the-variants.{Change};
-ghost use Rattle.sheet.specs.Check.{mayRun};
+ghost use Rattle.operands.specs.Operands.{mayRun};
 ghost use Rattle.machine.specs.Steps.{Registers};
 ghost use Rattle.machine.specs.Step.{updated, obey, stepCall};
 use sheet_format::Command;
 use sheet_format::Header;
 use sheet_format::Update;
 
-mod counting;
 mod registers;
-
-pub use counting::cost;
 
 // The answer of one command.
 pub enum Stepped {
@@ -66,9 +63,9 @@ pub fn step(x: &mut [u64], header: Header, command: Command) -> Stepped
     if x.len() != 2880 {
         return Stepped::NotObeyed;
     }
-    if !sheet::may_run(header, command) {
+    if !operands::may_run(header, command) {
         return Stepped::NotObeyed;
     }
     obey(x, header, command);
-    Stepped::Obeyed(cost(header.rank, command))
+    Stepped::Obeyed(costs::cost(header.rank, command))
 }

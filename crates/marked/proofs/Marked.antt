@@ -20,9 +20,11 @@ use Rattle.ranks.specs.Ranks.{size, needed, scratchSize}
 use Rattle.element_calls.specs.Coefficients.{modulus}
 use Rattle.element_calls.specs.Calls.{rankVerdict, sizeVerdict, scratchVerdict, productCall, pairingCall}
 use Rattle.sheet_format.specs.Format.{byte, number, row as command-row, decode, header}
-use Rattle.sheet.specs.Check.{inOrder, isRegister, updateInRange, queryInRange, operandsInRange, inRange, invertible, mayRun, placedFrom, placed, commands, firstRefusal, checkSheet}
+use Rattle.operands.specs.Operands.{isRegister, updateInRange, queryInRange, operandsInRange, inRange, invertible, mayRun}
+use Rattle.sheet.specs.Check.{inOrder, placedFrom, placed, commands, firstRefusal, checkSheet}
+use Rattle.costs.specs.Costs.{updateCost, cost}
 use Rattle.machine.specs.Registers.{register, zeros, element as register-element}
-use Rattle.machine.specs.Step.{updated, obey, updateCost, cost}
+use Rattle.machine.specs.Step.{updated, obey}
 use Rattle.runner.specs.Run.{obeyAll, runSheet}
 use Rattle.runner.specs.Turn.{beginCall, fits, obeys, turnCall, turns}
 use Rattle.output.specs.Text.{digits, decimal, pairLine, line, taggedPair, coefficients}

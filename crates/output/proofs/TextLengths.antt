@@ -1,5 +1,5 @@
 -- A command prints at most 18,004 bytes, where the registers, the count and the operand of begin are words. Rests on LineLengths,
--- sheet's InRange and machine's Put.
+-- operands' InRange and machine's Put.
 use mathlib.Core.Path.{_≡_, refl}
 use mathlib.Core.Bool.{true}
 use mathlib.Core.List.{List, [], _∷_}
@@ -18,9 +18,9 @@ use Rattle.sheet_format.specs.declared.Query.{Query}
 use Rattle.sheet_format.specs.declared.Query.the-variants.{Register, Pairing, Equality}
 use Rattle.sheet_format.specs.declared.Command.{Command}
 use Rattle.sheet_format.specs.declared.Command.the-variants.{End, Begin, Change, Show}
-use Rattle.sheet.specs.Check.{inRange}
-use Rattle.sheet.specs.Bounds.{QueryBounds}
-use Rattle.sheet.proofs.InRange.{low, within}
+use Rattle.operands.specs.Operands.{inRange}
+use Rattle.operands.specs.Bounds.{QueryBounds}
+use Rattle.operands.proofs.InRange.{low, within}
 use Rattle.machine.specs.Registers.{element}
 use Rattle.machine.specs.Steps.{Registers}
 use Rattle.machine.proofs.Put.{small, words-element}

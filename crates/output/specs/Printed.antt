@@ -32,7 +32,8 @@ use Rattle.sheet_format.specs.declared.Command.{Command}
 use Rattle.sheet_format.specs.declared.Command.the-variants.{End, Begin, Change, Show}
 use Rattle.sheet_format.specs.declared.Decoded.{Decoded}
 use Rattle.sheet_format.specs.declared.Decoded.the-variants.{Found, NoCommand, Short, Nothing}
-use Rattle.sheet.specs.Check.{inRange, placed, commands, checkSheet}
+use Rattle.operands.specs.Operands.{inRange}
+use Rattle.sheet.specs.Check.{placed, commands, checkSheet}
 use Rattle.machine.specs.Registers.{element}
 use Rattle.runner.specs.Run.{State, start, after}
 use Rattle.runner.specs.Turn.{state}

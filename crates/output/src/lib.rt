@@ -6,7 +6,7 @@ ghost use Prim.Native.Nat.{_≤_, _<_};
 ghost use lib.ListN.{length};
 ghost use Rattle.sheet_format.specs.declared.Command.the-variants.{Show};
 ghost use Rattle.sheet_format.specs.declared.Query.the-variants.{Register, Pairing, Equality};
-ghost use Rattle.sheet.specs.Check.{inRange};
+ghost use Rattle.operands.specs.Operands.{inRange};
 ghost use Rattle.output.specs.Text.{textRoom};
 ghost use Rattle.output.specs.Printed.{shown, text, inRangeText, textCall, errorCall};
 ghost use Rattle.output.specs.Steps.{Overwritten, Shown};
@@ -95,7 +95,7 @@ fn put_found(buffer: &mut [u8], x: &[u64], header: Header, count: u64, command: 
     ensures { λ n. ⌜ Overwritten 0 (inRangeText header command (record { contents = now (x .entry); count = count }))
         (now (buffer .entry)) (now (buffer .exit)) n ⌝ }
 {
-    if !sheet::in_range(header.rank, command) {
+    if !operands::in_range(header.rank, command) {
         return 0;
     }
     put_text(buffer, x, header, count, command)

@@ -12,7 +12,7 @@ use Rattle.sheet_format.specs.Format.{decode}
 use Rattle.sheet_format.specs.declared.Header.{Header}
 use Rattle.sheet_format.specs.declared.Command.{Command}
 use Rattle.sheet_format.specs.declared.Decoded.the-variants.{Found}
-use Rattle.sheet.specs.Check.{inRange}
+use Rattle.operands.specs.Operands.{inRange}
 use Rattle.runner.specs.Turn.{state, ahead}
 use Rattle.runner.specs.declared.Cursor.{Cursor}
 use Rattle.runner.proofs.Turning.{Goes, Ends}

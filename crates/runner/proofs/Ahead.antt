@@ -1,5 +1,5 @@
--- The commands of an accepted sheet from an offset on: the one that stands there, and those after it; each may run. Rests on sheet's Accepted,
--- Limit, InRange and Allowed.
+-- The commands of an accepted sheet from an offset on: the one that stands there, and those after it; each may run. Rests on sheet's Accepted
+-- and Limit, and on operands' InRange and Allowed.
 use mathlib.Core.Path.{_≡_, ap}
 use mathlib.Core.Logic.{⊎-elim}
 use mathlib.Core.Bool.{true, false}
@@ -12,9 +12,10 @@ use Rattle.refusals.specs.declared.Verdict.the-variants.{Accepted}
 use Rattle.sheet_format.specs.Format.{header}
 use Rattle.sheet_format.specs.declared.Command.{Command}
 use Rattle.sheet_format.proofs.Offsets.{found-within}
-use Rattle.sheet.specs.Check.{isEnd, mayRun, placedFrom, placed, commands, checkSheet}
-use Rattle.sheet.proofs.InRange.{low}
-use Rattle.sheet.proofs.Allowed.{in-range}
+use Rattle.operands.specs.Operands.{mayRun}
+use Rattle.operands.proofs.InRange.{low}
+use Rattle.operands.proofs.Allowed.{in-range}
+use Rattle.sheet.specs.Check.{isEnd, placedFrom, placed, commands, checkSheet}
 use Rattle.sheet.proofs.Limit.{placed-enough}
 use Rattle.sheet.proofs.CheckFrom.{checkFrom}
 use Rattle.sheet.proofs.Accepted.{Next, accepted-start, accepted-next}

@@ -1,4 +1,4 @@
--- The tests of a turn, and what its step answers. Rests on lists' Test and sheet's Allowed.
+-- The tests of a turn, and what its step answers. Rests on lists' Test and operands' Allowed.
 use mathlib.Core.Path.{_≡_, refl, sym, ap, _∙_}
 use mathlib.Core.Bool.{Bool, true, false, _&&_, and-eq-true-iff}
 use mathlib.Core.List.{List}
@@ -10,9 +10,10 @@ use Rattle.lists.proofs.Test.{less-yes, less-no}
 use Rattle.sheet_format.specs.declared.Header.{Header}
 use Rattle.sheet_format.specs.declared.Command.{Command}
 use Rattle.sheet_format.specs.declared.Decoded.the-variants.{Found}
-use Rattle.sheet.specs.Check.{mayRun}
-use Rattle.sheet.proofs.Allowed.{in-range}
-use Rattle.machine.specs.Step.{cost, costCall, stepCall}
+use Rattle.operands.specs.Operands.{mayRun}
+use Rattle.operands.proofs.Allowed.{in-range}
+use Rattle.costs.specs.Costs.{cost, costCall}
+use Rattle.machine.specs.Step.{stepCall}
 use Rattle.machine.specs.declared.Stepped.{Stepped}
 use Rattle.machine.specs.declared.Stepped.the-variants.{Obeyed, NotObeyed}
 use Rattle.runner.specs.Turn.{fits, obeys, onward, turnOf}

@@ -1,4 +1,4 @@
--- Commands that may run keep the zeros past M in each register. Rests on Puts and sheet's Allowed.
+-- Commands that may run keep the zeros past M in each register. Rests on Puts and operands' Allowed.
 --
 --   Kept M x   four registers of 720 words, each of them zero past the first M
 use mathlib.Core.Path.{_≡_, ap, _∙_}
@@ -17,9 +17,9 @@ use Rattle.lists.proofs.Overwrite.{overwrite-size}
 use Rattle.ranks.proofs.Sizes.{sheet-size-small}
 use Rattle.sheet_format.specs.declared.Header.{Header}
 use Rattle.sheet_format.specs.declared.Command.{Command}
-use Rattle.sheet.specs.Check.{mayRun}
-use Rattle.sheet.proofs.InRange.{low}
-use Rattle.sheet.proofs.Allowed.{in-range}
+use Rattle.operands.specs.Operands.{mayRun}
+use Rattle.operands.proofs.InRange.{low}
+use Rattle.operands.proofs.Allowed.{in-range}
 use Rattle.machine.specs.Registers.{put}
 use Rattle.runner.specs.Run.{State, after, obeyAll}
 use Rattle.runner.proofs.Puts.{puts-obey}

@@ -1,4 +1,4 @@
--- A command in range puts elements of M words into registers, and changes nothing else. Rests on machine's Put and sheet's InRange.
+-- A command in range puts elements of M words into registers, and changes nothing else. Rests on machine's Put and operands' InRange.
 --
 --   puts-obey   what holds of registers before such a command, and is kept where an element is put, holds after it
 --   obey-size   it keeps the size of the registers
@@ -24,9 +24,9 @@ use Rattle.sheet_format.specs.declared.Update.{Update}
 use Rattle.sheet_format.specs.declared.Update.the-variants.{Unit, Set, Letter, InverseLetter, Product, Sum, Scale}
 use Rattle.sheet_format.specs.declared.Command.{Command}
 use Rattle.sheet_format.specs.declared.Command.the-variants.{End, Begin, Change, Show}
-use Rattle.sheet.specs.Check.{inRange}
-use Rattle.sheet.specs.Bounds.{UpdateBounds, Bounds}
-use Rattle.sheet.proofs.InRange.{low, within}
+use Rattle.operands.specs.Operands.{inRange}
+use Rattle.operands.specs.Bounds.{UpdateBounds, Bounds}
+use Rattle.operands.proofs.InRange.{low, within}
 use Rattle.machine.specs.Registers.{element, put, zeros}
 use Rattle.machine.specs.Step.{updated, obey}
 use Rattle.machine.proofs.Put.{element-size}

@@ -1,5 +1,5 @@
 -- A turn at a cursor that a run of an accepted sheet comes to: the command there is obeyed, since the count stays a word. Rests on Ahead, Beginning, Puts,
--- sheet's Accepted and machine's Costs.
+-- sheet's Accepted and costs' Costs.
 --
 --   Goes s h k x next y   the turn there goes on with the cursor next and the registers y
 --   Ends s h k x y        it is the last, and leaves the registers y
@@ -19,13 +19,15 @@ use Rattle.sheet_format.specs.declared.Command.{Command}
 use Rattle.sheet_format.specs.declared.Command.the-variants.{End, Begin, Change, Show}
 use Rattle.sheet_format.specs.declared.Decoded.the-variants.{Found}
 use Rattle.sheet_format.proofs.Offsets.{found-within}
-use Rattle.sheet.specs.Check.{isEnd, inRange, mayRun}
-use Rattle.sheet.proofs.InRange.{low}
+use Rattle.operands.specs.Operands.{inRange, mayRun}
+use Rattle.operands.proofs.InRange.{low}
+use Rattle.operands.proofs.Allowed.{in-range}
+use Rattle.sheet.specs.Check.{isEnd}
 use Rattle.sheet.proofs.CheckFrom.{checkFrom}
-use Rattle.sheet.proofs.Allowed.{in-range}
 use Rattle.sheet.proofs.Accepted.{Next, accepted-start, accepted-next}
-use Rattle.machine.specs.Step.{obey, cost}
-use Rattle.machine.proofs.Costs.{cost-small}
+use Rattle.costs.specs.Costs.{cost}
+use Rattle.costs.proofs.Costs.{cost-small}
+use Rattle.machine.specs.Step.{obey}
 use Rattle.runner.specs.Run.{after}
 use Rattle.runner.specs.Turn.{state, beginCall, fits, obeys, moved, onward, turnCall, ahead, Along}
 use Rattle.runner.specs.declared.Cursor.{Cursor}

@@ -25,8 +25,9 @@ use Rattle.sheet_format.specs.Format.{header}
 use Rattle.sheet_format.specs.declared.Header.{Header}
 use Rattle.sheet_format.specs.declared.Command.{Command}
 use Rattle.sheet.specs.Check.{placed, commands, checkSheet}
+use Rattle.costs.specs.Costs.{cost}
 use Rattle.machine.specs.Registers.{register}
-use Rattle.machine.specs.Step.{obey, cost}
+use Rattle.machine.specs.Step.{obey}
 use Rattle.runner.specs.declared.Finished.{Finished}
 
 pub record State : Type 0 where

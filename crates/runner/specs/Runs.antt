@@ -16,7 +16,8 @@ use Rattle.refusals.specs.declared.Refusal.{Refusal}
 use Rattle.refusals.specs.declared.Verdict.the-variants.{Accepted, Refused}
 use Rattle.ranks.specs.Ranks.{size}
 use Rattle.sheet_format.specs.Format.{header}
-use Rattle.sheet.specs.Check.{mayRun, placed, commands, checkSheet}
+use Rattle.operands.specs.Operands.{mayRun}
+use Rattle.sheet.specs.Check.{placed, commands, checkSheet}
 use Rattle.machine.specs.Registers.{register}
 use Rattle.runner.specs.Run.{start, obeyAll, obeyed, ran, runSheet, finishedReport, runCall}
 use Rattle.runner.specs.Turn.{state, first, begunReport, beginCall, turns}

@@ -32,8 +32,10 @@ use Rattle.sheet_format.specs.declared.Header.{Header}
 use Rattle.sheet_format.specs.declared.Command.{Command}
 use Rattle.sheet_format.specs.declared.Decoded.{Decoded}
 use Rattle.sheet_format.specs.declared.Decoded.the-variants.{Found, NoCommand, Short, Nothing}
-use Rattle.sheet.specs.Check.{isEnd, mayRun, placedFrom, commands, firstRefusal, checkSheet}
-use Rattle.machine.specs.Step.{obey, cost}
+use Rattle.operands.specs.Operands.{mayRun}
+use Rattle.sheet.specs.Check.{isEnd, placedFrom, commands, firstRefusal, checkSheet}
+use Rattle.costs.specs.Costs.{cost}
+use Rattle.machine.specs.Step.{obey}
 use Rattle.runner.specs.Run.{State}
 use Rattle.runner.specs.declared.Cursor.{Cursor}
 use Rattle.runner.specs.declared.Begun.{Begun}

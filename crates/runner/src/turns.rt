@@ -49,7 +49,7 @@ fn obey_next(
 ) -> Turned
     ensures { λ r. ⌜ turnOf header cursor (Found command after) (now (x .entry)) ≡ record { answer = r; lent = now (x .exit) } ⌝ }
 {
-    let n = machine::cost(header.rank, command);
+    let n = costs::cost(header.rank, command);
     if 0xffffffffffffffff - cursor.count < n {
         return Turned::NotObeyed;
     }

@@ -1,5 +1,5 @@
--- What acceptance says of a sheet: its size, and at each offset that a run reaches a good command, the end as the last byte. Rests on Allowed
--- and Cases.
+-- What acceptance says of a sheet: its size, and at each offset that a run reaches a good command, the end as the last byte. Rests on Cases
+-- and operands' Allowed.
 use mathlib.Core.Path.{_≡_, refl, sym, _∙_}
 use mathlib.Core.Logic.{_⊎_, inl, inr, ⊎-elim}
 use mathlib.Core.Bool.{true, false}
@@ -18,9 +18,10 @@ use Rattle.sheet_format.specs.declared.Command.{Command}
 use Rattle.sheet_format.specs.declared.Command.the-variants.{End}
 use Rattle.sheet_format.specs.declared.Decoded.the-variants.{Found}
 use Rattle.sheet_format.proofs.Offsets.{found-within}
-use Rattle.sheet.specs.Check.{isEnd, mayRun, checkSheet}
+use Rattle.operands.specs.Operands.{mayRun}
+use Rattle.operands.proofs.Allowed.{may-run}
+use Rattle.sheet.specs.Check.{isEnd, checkSheet}
 use Rattle.sheet.proofs.CheckFrom.{checkFrom, from-start, stands}
-use Rattle.sheet.proofs.Allowed.{may-run}
 use Rattle.sheet.proofs.Cases.{Kind, nothing, unknown, short, disordered, outside, lacking, end, on, kind?, order-fails, range-fails, inverse-fails, taken-on, taken-end}
 
 refused : {why : Refusal} → Refused why ≡ Accepted → ⊥

@@ -1,4 +1,5 @@
--- The check's tests at an offset are the table's words, once a good first command has said the rank. Rests on Cases, InOrder, InRange and Parity.
+-- The check's tests at an offset are the table's words, once a good first command has said the rank. Rests on Cases, InOrder, and operands' InRange and
+-- Parity.
 --
 --   Begun s at   past offset 0, the rank of the sheet s is at most 5
 use mathlib.Core.Path.{_≡_, refl, sym, ap, subst, _∙_}
@@ -15,14 +16,16 @@ use Rattle.sheet_format.specs.declared.Update.the-variants.{InverseLetter}
 use Rattle.sheet_format.specs.declared.Command.{Command}
 use Rattle.sheet_format.specs.declared.Command.the-variants.{End, Begin, Change, Show}
 use Rattle.sheet_format.specs.declared.Decoded.the-variants.{Found}
-use Rattle.sheet.specs.Check.{isEnd, inOrder, inRange}
-use Rattle.sheet.specs.Bounds.{Begins, Ordered, Bounds}
+use Rattle.operands.specs.Operands.{inRange}
+use Rattle.operands.specs.Bounds.{Begins, Bounds}
+use Rattle.operands.proofs.InRange.{within, in-range}
+use Rattle.operands.proofs.Parity.{invertible-odd, odd-where, lacks-even, Lacks, lack}
+use Rattle.sheet.specs.Check.{isEnd, inOrder}
+use Rattle.sheet.specs.Table.{Ordered}
 use Rattle.sheet.specs.Table.{Good, OutOfOrder, OutOfRange, Uninvertible}
 use Rattle.sheet.proofs.Tests.{fails, fails-not}
 use Rattle.sheet.proofs.CheckFrom.{checkFrom}
 use Rattle.sheet.proofs.InOrder.{ordered, in-order}
-use Rattle.sheet.proofs.InRange.{within, in-range}
-use Rattle.sheet.proofs.Parity.{invertible-odd, odd-where, lacks-even, Lacks, lack}
 use Rattle.sheet.proofs.Cases.{Taken, order-fails, range-fails, inverse-fails}
 
 abbrev pub Begun : List ℕ → ℕ → Type 0

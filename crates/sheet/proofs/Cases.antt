@@ -18,7 +18,8 @@ use Rattle.sheet_format.specs.declared.Command.{Command}
 use Rattle.sheet_format.specs.declared.Command.the-variants.{End, Begin, Change, Show}
 use Rattle.sheet_format.specs.declared.Decoded.{Decoded}
 use Rattle.sheet_format.specs.declared.Decoded.the-variants.{Found, NoCommand, Short, Nothing}
-use Rattle.sheet.specs.Check.{isEnd, inOrder, inRange, invertible}
+use Rattle.operands.specs.Operands.{inRange, invertible}
+use Rattle.sheet.specs.Check.{isEnd, inOrder}
 use Rattle.sheet.specs.Steps.{judgedCommand}
 use Rattle.sheet.proofs.CheckFrom.{checkFrom, stands}
 

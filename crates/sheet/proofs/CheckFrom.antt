@@ -18,7 +18,8 @@ use Rattle.sheet_format.specs.declared.Header.{Header}
 use Rattle.sheet_format.specs.declared.Decoded.{Decoded}
 use Rattle.sheet_format.specs.declared.Decoded.the-variants.{Found, NoCommand, Short, Nothing}
 use Rattle.sheet_format.proofs.Offsets.{found-within}
-use Rattle.sheet.specs.Check.{isEnd, inOrder, inRange, invertible, Placed, following, placedFrom, placed, judge, firstRefusal}
+use Rattle.operands.specs.Operands.{inRange, invertible}
+use Rattle.sheet.specs.Check.{isEnd, inOrder, Placed, following, placedFrom, placed, judge, firstRefusal}
 use Rattle.sheet.specs.Steps.{judgedCommand, judged}
 use Rattle.sheet.specs.declared.checks.Judged.{Judged}
 use Rattle.sheet.specs.declared.checks.Judged.the-variants.{On, Done}

@@ -8,8 +8,9 @@ use Rattle.lists.specs.Lists.{bit}
 use Rattle.lists.proofs.Test.{SameView, is, isnt, same?}
 use Rattle.sheet_format.specs.declared.Command.{Command}
 use Rattle.sheet_format.specs.declared.Command.the-variants.{End, Begin, Change, Show}
+use Rattle.operands.specs.Bounds.{Begins}
 use Rattle.sheet.specs.Check.{isBegin, inOrder}
-use Rattle.sheet.specs.Bounds.{Begins, Ordered}
+use Rattle.sheet.specs.Table.{Ordered}
 use Rattle.sheet.proofs.Tests.{fails, fails-not}
 
 begins : (c : Command) → isBegin c ≡ true → Begins c

@@ -1,8 +1,5 @@
 mod Tests
 mod InOrder
-pub mod InRange
-mod Parity
-pub mod Allowed
 pub mod Limit
 pub mod CheckFrom
 pub mod Cases

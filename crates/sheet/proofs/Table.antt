@@ -19,11 +19,11 @@ use Rattle.refusals.proofs.Ended.{refuses-verdict}
 use Rattle.sheet_format.specs.declared.Command.the-variants.{End}
 use Rattle.sheet_format.specs.Format.{header}
 use Rattle.sheet_format.proofs.Offsets.{found-within, past-end, nothing-past}
+use Rattle.operands.proofs.Parity.{lacks}
 use Rattle.sheet.specs.Check.{checkSheet}
 use Rattle.sheet.specs.Table.{Good, Reached, Ended, Says, Passes, Exactly}
 use Rattle.sheet.proofs.CheckFrom.{checkFrom, stands}
 use Rattle.sheet.proofs.Cases.{Kind, nothing, unknown, short, disordered, outside, lacking, end, on, kind?, order-fails, range-fails, inverse-fails, taken-on, taken-end}
-use Rattle.sheet.proofs.Parity.{lacks}
 use Rattle.sheet.proofs.Begun.{ends-not, good, out-of-order, out-of-range, uninvertible, order-refused, range-refused, inverse-refused}
 use Rattle.sheet.proofs.Accepted.{sized, missized, size?}
 use Rattle.sheet.proofs.Reached.{reached, reached-on, end-checked}

@@ -2,13 +2,6 @@
 --
 --   isEnd c, isBegin c            the tests for the end command and for a begin command
 --   inOrder at c                  the first command is begin, and no later one
---   isRegister r                  r is one of the four registers
---   updateInRange m u, queryInRange w   the operands are in range in a sheet of rank m
---   operandsInRange m c           the same of any command; the rank that begin names is m itself
---   inRange m c                   m is the rank of a sheet, from 0 to 5, and the operands are in range
---   needsInverse c                c multiplies by the inverse of a generator
---   invertible q c                q has an inverse modulo 2^64 if c needs one
---   mayRun h c                    in a sheet with the header h the operands are in range, and q has an inverse if c needs one
 --   Placed                        an offset, with what stands there
 --   following found rest          what follows a command that is not the end; rest gives what stands from an offset on
 --   placedFrom n s at             what stands in the sheet s from an offset on, up to the first end command or to what is no command, n at most
@@ -23,23 +16,16 @@ use mathlib.Core.List.{List, [], _∷_, _++_}
 use Prim.Native.Nat.{ℕ, zero, suc}
 use lib.ListN.{length}
 use Rattle.lists.specs.Lists.{same, less}
-use Rattle.lists.specs.Numbers.{factorial}
-use Rattle.ring.specs.Modular.{wordModulus}
-use Rattle.inverses.specs.Inverses.{hasInverse}
 use Rattle.refusals.specs.Refusals.{_then_, unless}
 use Rattle.refusals.specs.declared.Refusal.the-variants.{Bytes, Unknown, CutOff, Order, Range, Ending, NoInverse}
 use Rattle.refusals.specs.declared.Verdict.{Verdict}
 use Rattle.refusals.specs.declared.Verdict.the-variants.{Accepted, Refused}
 use Rattle.sheet_format.specs.Format.{decode, header}
-use Rattle.sheet_format.specs.declared.Header.{Header}
-use Rattle.sheet_format.specs.declared.Update.{Update}
-use Rattle.sheet_format.specs.declared.Update.the-variants.{Unit, Set, Letter, InverseLetter, Product, Sum, Scale}
-use Rattle.sheet_format.specs.declared.Query.{Query}
-use Rattle.sheet_format.specs.declared.Query.the-variants.{Register, Pairing, Equality}
 use Rattle.sheet_format.specs.declared.Command.{Command}
 use Rattle.sheet_format.specs.declared.Command.the-variants.{End, Begin, Change, Show}
 use Rattle.sheet_format.specs.declared.Decoded.{Decoded}
 use Rattle.sheet_format.specs.declared.Decoded.the-variants.{Found, NoCommand, Short, Nothing}
+use Rattle.operands.specs.Operands.{inRange, invertible}
 
 -- ---- a command
 
@@ -57,50 +43,6 @@ isBegin (Show w) = false
 
 unfoldable pub inOrder : ℕ → Command → Bool
 inOrder at c = cond (same at 0) (isBegin c) (not (isBegin c))
-
-unfoldable pub isRegister : ℕ → Bool
-isRegister r = less r 4
-
-unfoldable pub updateInRange : ℕ → Update → Bool
-updateInRange m (Unit r) = isRegister r
-updateInRange m (Set r i v) = isRegister r && less i (factorial (suc m))
-updateInRange m (Letter r i) = isRegister r && not (same i 0 || less m i)
-updateInRange m (InverseLetter r i) = isRegister r && not (same i 0 || less m i)
-updateInRange m (Product d a b) = isRegister d && isRegister a && isRegister b
-updateInRange m (Sum d a b) = isRegister d && isRegister a && isRegister b
-updateInRange m (Scale r v) = isRegister r
-
-unfoldable pub queryInRange : Query → Bool
-queryInRange (Register r) = isRegister r
-queryInRange (Pairing a b) = isRegister a && isRegister b
-queryInRange (Equality a b) = isRegister a && isRegister b
-
-unfoldable pub operandsInRange : ℕ → Command → Bool
-operandsInRange m End = true
-operandsInRange m (Begin h) = same (h .rank) m
-operandsInRange m (Change u) = updateInRange m u
-operandsInRange m (Show w) = queryInRange w
-
-unfoldable pub inRange : ℕ → Command → Bool
-inRange m c = not (less 5 m) && operandsInRange m c
-
-abbrev pub needsInverse : Command → Bool
-needsInverse End = false
-needsInverse (Begin h) = false
-needsInverse (Change (Unit r)) = false
-needsInverse (Change (Set r i v)) = false
-needsInverse (Change (Letter r i)) = false
-needsInverse (Change (InverseLetter r i)) = true
-needsInverse (Change (Product d a b)) = false
-needsInverse (Change (Sum d a b)) = false
-needsInverse (Change (Scale r v)) = false
-needsInverse (Show w) = false
-
-unfoldable pub invertible : ℕ → Command → Bool
-invertible q c = not (needsInverse c) || hasInverse wordModulus q
-
-unfoldable pub mayRun : Header → Command → Bool
-mayRun h c = inRange (h .rank) c && invertible (h .q) c
 
 -- ---- a sheet
 

@@ -1,5 +1,4 @@
 pub mod Check
 pub mod Steps
-pub mod Bounds
 pub mod Table
 pub mod Composed

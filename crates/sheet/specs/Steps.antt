@@ -12,7 +12,8 @@ use Rattle.sheet_format.specs.declared.Header.{Header}
 use Rattle.sheet_format.specs.declared.Command.{Command}
 use Rattle.sheet_format.specs.declared.Decoded.{Decoded}
 use Rattle.sheet_format.specs.declared.Decoded.the-variants.{Found, NoCommand, Short, Nothing}
-use Rattle.sheet.specs.Check.{isEnd, inOrder, inRange, invertible}
+use Rattle.operands.specs.Operands.{inRange, invertible}
+use Rattle.sheet.specs.Check.{isEnd, inOrder}
 use Rattle.sheet.specs.declared.checks.Judged.{Judged}
 use Rattle.sheet.specs.declared.checks.Judged.the-variants.{On, Done}
 

@@ -1,6 +1,7 @@
 -- When a sheet is refused, as document 01's table says it, and 15 as document 02, Ticket 1, says it, without the order in which a check goes and
 -- without its tests.
 --
+--   Ordered at c              the command c stands at offset 0 exactly where it is begin
 --   Good s at c after         the command c stands at an offset of the sheet s, in order and within its bounds, and the offset after it; q is odd
 --                             if c multiplies by an inverse generator
 --   Link                      a command, and the offset after it
@@ -28,8 +29,11 @@ use Rattle.sheet_format.specs.declared.Update.the-variants.{InverseLetter}
 use Rattle.sheet_format.specs.declared.Command.{Command}
 use Rattle.sheet_format.specs.declared.Command.the-variants.{End, Change}
 use Rattle.sheet_format.specs.declared.Decoded.the-variants.{Found, NoCommand, Short}
-use Rattle.sheet.specs.Bounds.{Ordered, Bounds}
+use Rattle.operands.specs.Bounds.{Begins, Bounds}
 use Rattle.sheet.specs.Check.{checkSheet}
+
+abbrev pub Ordered : ℕ → Command → Type 0
+Ordered at c = (at ≡ 0 → Begins c) × (Begins c → at ≡ 0)
 
 pub record Good (s : List ℕ) (at : ℕ) (c : Command) (after : ℕ) : Type 0 where
   pub stands : decode s at ≡ Found c after

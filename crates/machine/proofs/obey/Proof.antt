@@ -1,10 +1,10 @@
--- Each arm is the definition's line for its kind of command. Rests on Put, and on sheet's InRange
+-- Each arm is the definition's line for its kind of command. Rests on Put, and on operands' InRange
 -- and Allowed.
 use mathlib.Core.Path.{refl, sym, ap, _∙_}
 use borrow.Author.Needs.{needs}
-use Rattle.sheet.specs.Check.{mayRun}
-use Rattle.sheet.proofs.InRange.{low}
-use Rattle.sheet.proofs.Allowed.{in-range}
+use Rattle.operands.specs.Operands.{mayRun}
+use Rattle.operands.proofs.InRange.{low}
+use Rattle.operands.proofs.Allowed.{in-range}
 use Rattle.machine.specs.Step.{obey}
 use Rattle.machine.specs.Steps.{Registers}
 use Rattle.machine.proofs.Put.{registers}

@@ -6,9 +6,10 @@ use borrow.Author.Needs.{needs}
 use borrow.Author.Tests.{not-true}
 use lib.ListN.{length}
 use Rattle.lists.proofs.Test.{same-yes, same-no, not-false}
-use Rattle.sheet.specs.Check.{mayRun}
-use Rattle.sheet.proofs.Allowed.{in-range}
-use Rattle.machine.specs.Step.{cost, costCall, stepCall}
+use Rattle.operands.specs.Operands.{mayRun}
+use Rattle.operands.proofs.Allowed.{in-range}
+use Rattle.costs.specs.Costs.{cost, costCall}
+use Rattle.machine.specs.Step.{stepCall}
 use Rattle.machine.specs.declared.Stepped.the-variants.{Obeyed}
 use Rattle.machine.proofs.step.Statement.{statement}
 use Rattle.machine.proofs.step.Tie as tie

@@ -1,12 +1,12 @@
--- Each arm is the definition's line for its update. Rests on sheet's InRange and Allowed.
+-- Each arm is the definition's line for its update. Rests on operands' InRange and Allowed.
 use mathlib.Core.Path.{_≡_, ap}
 use native.Mathlib.Omega.{arith}
 use borrow.Author.Needs.{needs}
 use Rattle.sheet_format.specs.declared.Update.{Update}
 use Rattle.sheet_format.specs.declared.Command.the-variants.{Change}
-use Rattle.sheet.specs.Bounds.{UpdateBounds}
-use Rattle.sheet.proofs.InRange.{within}
-use Rattle.sheet.proofs.Allowed.{in-range, has-inverse}
+use Rattle.operands.specs.Bounds.{UpdateBounds}
+use Rattle.operands.proofs.InRange.{within}
+use Rattle.operands.proofs.Allowed.{in-range, has-inverse}
 use Rattle.machine.specs.Step.{updated}
 use Rattle.machine.proofs.update.Statement.{statement}
 use Rattle.machine.proofs.update.Tie as tie

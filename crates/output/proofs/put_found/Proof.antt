@@ -1,11 +1,11 @@
--- The text of a command in range, or nothing. Rests on sheet's InRange.
+-- The text of a command in range, or nothing. Rests on operands' InRange.
 use mathlib.Core.Path.{_≡_, sym, _∙_}
 use mathlib.Core.Bool.{true, false}
 use borrow.Author.Needs.{needs}
 use borrow.Author.Tests.{not-true}
 use Rattle.lists.proofs.Test.{not-false}
-use Rattle.sheet.specs.Check.{inRange}
-use Rattle.sheet.proofs.InRange.{low}
+use Rattle.operands.specs.Operands.{inRange}
+use Rattle.operands.proofs.InRange.{low}
 use Rattle.output.specs.Printed.{inRangeText}
 use Rattle.output.proofs.Overwritten.{overwritten-none}
 use Rattle.output.proofs.put_found.Statement.{statement}

@@ -1,11 +1,11 @@
--- Each arm is the line of `shown` for its query. Rests on sheet's InRange.
+-- Each arm is the line of `shown` for its query. Rests on operands' InRange.
 use mathlib.Core.Path.{_≡_, ap}
 use native.Mathlib.Omega.{arith}
 use borrow.Author.Needs.{needs}
 use Rattle.sheet_format.specs.declared.Query.{Query}
 use Rattle.sheet_format.specs.declared.Command.the-variants.{Show}
-use Rattle.sheet.specs.Bounds.{QueryBounds}
-use Rattle.sheet.proofs.InRange.{within}
+use Rattle.operands.specs.Bounds.{QueryBounds}
+use Rattle.operands.proofs.InRange.{within}
 use Rattle.output.proofs.put_shown.Statement.{statement}
 use Rattle.output.proofs.put_shown.Tie as tie
 

@@ -3,7 +3,7 @@ use mathlib.Core.Path.{sym, ap, _∙_}
 use native.Mathlib.Nat.{le-trans}
 use native.Mathlib.Omega.{arith}
 use borrow.Author.Needs.{needs}
-use Rattle.sheet.specs.Check.{inRange}
+use Rattle.operands.specs.Operands.{inRange}
 use Rattle.output.specs.Printed.{text}
 use Rattle.output.proofs.LineLengths.{line-short, tagged-pair-short}
 use Rattle.output.proofs.Overwritten.{overwritten-none}

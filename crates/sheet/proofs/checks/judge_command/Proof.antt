@@ -5,7 +5,8 @@ use native.Mathlib.Omega.{arith}
 use borrow.Author.Needs.{needs}
 use borrow.Author.Tests.{not-true}
 use Rattle.lists.proofs.Test.{less-yes, less-no, not-false}
-use Rattle.sheet.specs.Check.{inOrder, inRange, invertible, isEnd}
+use Rattle.operands.specs.Operands.{inRange, invertible}
+use Rattle.sheet.specs.Check.{inOrder, isEnd}
 use Rattle.sheet.specs.Steps.{judgedCommand}
 use Rattle.sheet.proofs.checks.judge_command.Statement.{statement}
 use Rattle.sheet.proofs.checks.judge_command.Tie as tie

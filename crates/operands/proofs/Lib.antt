@@ -1,0 +1,4 @@
+mod Tests
+pub mod InRange
+pub mod Parity
+pub mod Allowed
