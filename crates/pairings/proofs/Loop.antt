@@ -59,7 +59,6 @@ module _ {m top n : ℕ} {a b f : List ℕ} (h : WalkPre m top a b f) (e : n ≡
         low = omega (arith, h .low);
         seven = z .seven;
         left = part-size n (m - c) a (block-fits c l) ∙ size-of;
-        small = h .small;
         within = omega (arith, h .within);
         reach = rw e (reach-rest m c top f g (omega arith) (z .rest) (h .reach));
       }

@@ -1,5 +1,5 @@
--- With the factorials as weights, from the last index, the walk finds b at the place of the inverse; so it makes the pairing. Rests on Found, LastPlace,
--- WordBlocks and ranks' Sizes.
+-- With the factorials as weights, from the last index, the walk finds b at the place of the inverse; so it makes the pairing. Rests on Found, LastPlace
+-- and WordBlocks.
 use mathlib.Core.Path.{_≡_, refl, sym, ap, _∙_}
 use mathlib.Core.List.{List, [], _∷_}
 use Prim.Native.Nat.{ℕ, zero, suc, _+_, _*_, _-_, _≤_, _<_}
@@ -15,7 +15,6 @@ use Rattle.algebra.specs.Place.{place}
 use Rattle.algebra.specs.Element.{coefficient}
 use Rattle.algebra.specs.Pairing.{pairing}
 use Rattle.algebra.proofs.Place.{place-below}
-use Rattle.ranks.proofs.Sizes.{size-small}
 use Rattle.pairings.specs.Walk.{byLength, found, walked, WalkPre, PairPre}
 use Rattle.pairings.proofs.LastPlace.{place-fall}
 use Rattle.pairings.proofs.ByLength.{by-length-cong}
@@ -47,7 +46,6 @@ module _ {m : ℕ} {a b : List ℕ} (h : PairPre m a b) where
         low = h .low;
         seven = refl;
         left = h .left;
-        small = omega (arith, h .right, size-small m (h .low));
         within = omega (arith, h .right, series-factorials (suc m));
         reach = omega (arith, h .right, series-factorials (suc m), each);
       }

@@ -41,7 +41,6 @@ pub record WalkPre (m top : ℕ) (a b weights : List ℕ) : Type 0 where
   pub low : m ≤ 6
   pub seven : length weights ≡ 7
   pub left : length a ≡ factorial (suc m)
-  pub small : length b ≤ 5040
   pub within : top < length b
   pub reach : series 0 (suc m) (λ j. getD weights j 0 * j) ≤ top
 
