@@ -3,6 +3,7 @@ pub mod Test
 pub mod Equal
 pub mod All
 pub mod First
+pub mod Search
 pub mod Tally
 pub mod Range
 pub mod Series

@@ -1,4 +1,5 @@
 pub mod Verdicts
+pub mod Judged
 pub mod ImageVerdicts
 pub mod Accepted
 pub mod Refusals

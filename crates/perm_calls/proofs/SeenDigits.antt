@@ -2,14 +2,14 @@
 -- a new image on, how many larger ones are among them, which is an entry of the tower. Rests on Seen and perms' Above and Mask.
 use mathlib.Core.Path.{_≡_, sym, ap, _∙_}
 use mathlib.Core.Logic.{_≢_}
-use mathlib.Core.Bool.{Bool}
+use mathlib.Core.Bool.{Bool, true}
 use mathlib.Core.List.{List}
-use Prim.Native.Nat.{ℕ, zero, suc, _+_, _-_, _/_, _%_, _^_, _≤_}
+use Prim.Native.Nat.{ℕ, zero, suc, _+_, _-_, _/_, _%_, _^_, _≤_, _<_}
 use native.Mathlib.Omega.{arith}
 use lib.Count.{ones}
 use lib.ListN.{length, getD, take}
 use Rattle.lists.specs.Lists.{less, bit, count}
-use Rattle.lists.proofs.Test.{LessView, lt, ge, less?, same-no, less-no}
+use Rattle.lists.proofs.Test.{SameView, is, isnt, LessView, lt, ge, same?, less?, same-no, less-yes, less-no}
 use Rattle.perms.specs.Tower.{above, entry, mask, number}
 use Rattle.perms.proofs.Perm.{Dist}
 use Rattle.perms.proofs.Above.{above-step, above-none}
@@ -68,7 +68,16 @@ seen-entry {w} {held} {i} x s =
     all : 64 ≡ k + (64 - k)
     all = omega (arith, x .high)
 
--- an image in range is bad if its digit is set
+-- ---- which images are bad: 0, one above the number of images, and one in range whose digit is set
+
+pub outside-bad : (w : List ℕ) (i : ℕ) → (getD w i 0 ≢ 0 → length w < getD w i 0) → badImage w i ≡ true
+unfolding badImage
+outside-bad w i h = go (same? (getD w i 0) 0)
+  where
+    go : SameView (getD w i 0) 0 → badImage w i ≡ true
+    go (is p e) = simp e
+    go (isnt p e) = simp (e, less-yes (h p))
+
 pub bad-digit : {w : List ℕ} {held i : ℕ} → Seen w held i → length w ≤ 64 → getD w i 0 ≢ 0 → getD w i 0 ≤ length w
     → held / 2 ^ (getD w i 0 - 1) % 2 ≡ bit (badImage w i)
 unfolding badImage

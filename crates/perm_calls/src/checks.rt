@@ -1,36 +1,10 @@
-// The checks of image lists, towers and buffers: the first refusal in document 01's order.
+// The checks of towers and buffers: the first refusal in document 01's order.
 
 ghost use mathlib.Core.Path.{_≡_};
-ghost use Prim.Native.Nat.{_≤_};
-ghost use lib.ListN.{length};
-ghost use Rattle.perm_calls.specs.Calls.{firstBadImage, firstBadEntry, imagesVerdict, entriesVerdict, towerVerdict, towersVerdict, exact, room};
+ghost use Rattle.perm_calls.specs.Calls.{firstBadEntry, entriesVerdict, towerVerdict, towersVerdict, exact, room};
 use refusals::Refusal;
 use refusals::Verdict;
 use refusals::then;
-
-// The index of the first bad image, else the number of images. In the mask of the images seen, x is at bit x - 1.
-fn first_bad_image(images: &[u8]) -> usize
-    requires { ⌜ length (now images) ≤ 64 ⌝ }
-    ensures { λ r. ⌜ r ≡ firstBadImage (now (images .entry)) ⌝ }
-{
-    let n = images.len();
-    let mut seen: u64 = 0;
-    for i in 0..n {
-        let x = images[i];
-        if x == 0 {
-            return i;
-        }
-        if n < x as usize {
-            return i;
-        }
-        let bit = x - 1;
-        if (seen >> bit) % 2 == 1 {
-            return i;
-        }
-        seen += 1 << bit;
-    }
-    n
-}
 
 // The index of the first entry a_j above j, else the number of entries.
 fn first_bad_entry(tower: &[u8]) -> usize
@@ -51,25 +25,6 @@ fn entries(tower: &[u8]) -> Verdict
     let bad = first_bad_entry(tower);
     if bad < tower.len() {
         return Verdict::Refused(Refusal::Entry(bad));
-    }
-    Verdict::Accepted
-}
-
-// Checks 5 and 6 on an image list.
-// Example: 2 2 1 is refused for its second image.
-pub fn images(images: &[u8]) -> Verdict
-    ensures { λ r. ⌜ r ≡ imagesVerdict (now (images .entry)) ⌝ }
-{
-    let n = images.len();
-    if n == 0 {
-        return Verdict::Refused(Refusal::Length);
-    }
-    if 64 < n {
-        return Verdict::Refused(Refusal::Length);
-    }
-    let bad = first_bad_image(images);
-    if bad < n {
-        return Verdict::Refused(Refusal::Image(bad));
     }
     Verdict::Accepted
 }

@@ -1,5 +1,5 @@
 // What the seven permutation and tower calls check and answer: answers and the checks. What a call answers and writes is defined
-// in specs/Calls; the work itself is in `towers` and `tower_words`.
+// in specs/Calls; the work itself is in `image_walk`, `towers` and `tower_words`.
 
 use refusals::Refusal;
 

@@ -25,6 +25,7 @@ pub mod Extend
 pub mod Split
 pub mod ExtendAscent
 pub mod Tower
+pub mod Prefix
 pub mod InverseExtend
 pub mod Standard
 pub mod ImagesOf

@@ -1,4 +1,4 @@
-// Reads calls of `towers` and `tower_words`, runs them, and writes a line for each: the call's answer and then the bytes of its buffer.
+// Reads calls of `image_walk`, `towers` and `tower_words`, runs them, and writes a line for each: the call's answer and then the bytes of its buffer.
 // The stored input and output are made by the reference program.
 //
 // A call is a byte, from 1 for tower_of to 7 for descents in the order of `run`; a list; for a product a second list; and,
@@ -93,7 +93,7 @@ fn print_generators(answer: Generators) {
 
 fn run(call: u8, first: &[u8], second: &[u8], buffer: &mut [u8]) {
     match call {
-        1 => print_verdict(towers::tower_of(first, buffer)),
+        1 => print_verdict(image_walk::tower_of(first, buffer)),
         2 => print_verdict(towers::images_of(first, buffer)),
         3 => print_verdict(towers::inverse(first, buffer)),
         4 => print_verdict(towers::product(first, second, buffer)),

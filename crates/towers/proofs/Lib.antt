@@ -3,4 +3,3 @@ mod Scatter
 mod Extended
 mod Grow
 mod TwoTowers
-mod Judged

@@ -4,29 +4,12 @@
 // writes, and a refusal leaves every lent byte as it was.
 
 ghost use mathlib.Core.Path.{_≡_};
-ghost use Rattle.perm_calls.specs.Calls.{towerOfCall, imagesOfCall, inverseCall, productCall};
+ghost use Rattle.perm_calls.specs.Calls.{imagesOfCall, inverseCall, productCall};
 use perm_calls::checks;
 use refusals::Verdict;
 use refusals::then;
 
 mod image_lists;
-
-// The tower of an image list: for each point after the first, how many points before it have a larger image.
-// Refused: 5 no image or over 64; 6 the first image that is 0, too large or already seen; 8 a buffer of another size.
-// Example: 2 3 1 gives 0 2.
-pub fn tower_of(images: &[u8], tower: &mut [u8]) -> Verdict
-    ensures { λ r. ⌜ towerOfCall (now (images .entry)) (now (tower .entry)) ≡ record { answer = r; lent = now (tower .exit) } ⌝ }
-{
-    let checked = then(
-        checks::images(images),
-        checks::exact(tower.len() + 1, images.len()),
-    );
-    if let Verdict::Refused(why) = checked {
-        return Verdict::Refused(why);
-    }
-    image_lists::fill_tower(images, tower);
-    Verdict::Accepted
-}
 
 // The image list of a tower.
 // Refused: 5 over 63 entries; 7 the first entry a_j above j; 8 a buffer of another size.

@@ -2,7 +2,7 @@
 use borrow.Author.Needs.{needs}
 use Rattle.perm_calls.specs.Calls.{imagesOfCall}
 use Rattle.perm_calls.proofs.Verdicts.{tower-accepted}
-use Rattle.towers.proofs.Judged.{fits, refused, done}
+use Rattle.perm_calls.proofs.Judged.{fits, refused, done}
 use Rattle.towers.proofs.images_of.Statement.{statement}
 use Rattle.towers.proofs.images_of.Tie as tie
 

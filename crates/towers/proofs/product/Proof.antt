@@ -3,7 +3,7 @@ use borrow.Author.Needs.{needs}
 use Rattle.perm_calls.specs.Calls.{productCall}
 use Rattle.perm_calls.proofs.Verdicts.{towers-accepted}
 use Rattle.towers.proofs.TwoTowers.{two-towers, swapped}
-use Rattle.towers.proofs.Judged.{fits, refused, done}
+use Rattle.perm_calls.proofs.Judged.{fits, refused, done}
 use Rattle.towers.proofs.product.Statement.{statement}
 use Rattle.towers.proofs.product.Tie as tie
 

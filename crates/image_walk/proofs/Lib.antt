@@ -1,0 +1,4 @@
+pub mod Held
+mod Walking
+mod Turn
+mod Vetted
