@@ -1,18 +1,18 @@
 -- What a walk holds after the first j images, beside the whole list: the record `Walk`. Rests on lists' Search and perms' Prefix.
 use mathlib.Core.Path.{_≡_, refl, sym, ap, ap₂, _∙_}
-use mathlib.Core.Bool.{Bool, _||_}
+use mathlib.Core.Bool.{_||_}
 use mathlib.Core.List.{List, []}
-use Prim.Native.Nat.{ℕ, suc, _+_, _≤_, _<_}
+use Prim.Native.Nat.{ℕ, suc, _≤_, _<_}
 use native.Mathlib.Omega.{arith}
 use lib.ListN.{length, getD, take}
 use lib.Seq.{getD-take, take-take}
 use Rattle.lists.specs.Lists.{same, less, first, count}
 use Rattle.lists.proofs.Test.{LessView, lt, ge, less?, less-yes, less-no}
+use Rattle.lists.proofs.Search.{first-found, first-same}
 use Rattle.perms.specs.Tower.{towerOf}
+use Rattle.perms.proofs.Prefix.{tower-take}
 use Rattle.perm_calls.specs.Calls.{badImage, firstBadImage}
 use Rattle.image_walk.specs.Walk.{Held, Entries, Bad, held, Walk}
-use Rattle.lists.proofs.Search.{first-found, first-same}
-use Rattle.perms.proofs.Prefix.{tower-take}
 
 -- ---- by the first bad one of j images
 
@@ -45,11 +45,11 @@ held-entries w j {t} e = go (less? (first (badImage w) 0 j) j)
     go (lt h f) = absurd (omega (arith, ap indexOf (sym (held-bad w j h) ∙ e)))
     go (ge h f) = (h, ap entriesOf (sym e ∙ held-good w j h))
 
-pub held-index : (w : List ℕ) (j : ℕ) {i : ℕ} → held w j ≡ Bad i → first (badImage w) 0 j ≡ i
+pub held-index : (w : List ℕ) (j : ℕ) {i : ℕ} → held w j ≡ Bad i → (first (badImage w) 0 j ≡ i) × (i < j)
 held-index w j {i} e = go (less? (first (badImage w) 0 j) j)
   where
-    go : LessView (first (badImage w) 0 j) j → first (badImage w) 0 j ≡ i
-    go (lt h f) = omega (arith, ap indexOf (sym (held-bad w j h) ∙ e))
+    go : LessView (first (badImage w) 0 j) j → (first (badImage w) 0 j ≡ i) × (i < j)
+    go (lt h f) = let at : first (badImage w) 0 j ≡ i = omega (arith, ap indexOf (sym (held-bad w j h) ∙ e)) in (at, omega (arith, at, h))
     go (ge h f) = absurd (omega (arith, ap indexOf (sym (held-good w j h) ∙ e)))
 
 -- ---- beside the whole list

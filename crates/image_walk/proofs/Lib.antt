@@ -1,4 +1,6 @@
+mod Examples
 pub mod Held
+pub mod Outcome
 mod Walking
 mod Turn
 mod Vetted

@@ -1,4 +1,4 @@
--- What the answer of a walk tells: the verdict on the images, and where it accepts them their tower; and how the call then ends. Rests on Held and
+-- What the answer of a walk tells: the verdict on the images, and where it accepts them their tower; and how the call then ends. Rests on Outcome and
 -- perm_calls' ImageVerdicts and Judged.
 use mathlib.Core.Path.{_≡_, refl, sym, ap, _∙_}
 use mathlib.Core.Logic.{_≢_}
@@ -7,7 +7,6 @@ use mathlib.Core.List.{List}
 use Prim.Native.Nat.{ℕ, _+_, _≤_, _<_}
 use native.Mathlib.Omega.{arith}
 use lib.ListN.{length, take, drop}
-use lib.Seq.{take-all}
 use Rattle.lists.specs.Lists.{bit}
 use Rattle.lists.proofs.Test.{less-yes, less-no}
 use Rattle.refusals.specs.Refusals.{_then_}
@@ -16,12 +15,11 @@ use Rattle.refusals.specs.declared.Refusal.the-variants.{Length, Image}
 use Rattle.refusals.specs.declared.Verdict.{Verdict}
 use Rattle.refusals.specs.declared.Verdict.the-variants.{Accepted, Refused}
 use Rattle.refusals.proofs.Verdicts.{accepts-unless}
-use Rattle.perms.specs.Tower.{towerOf}
-use Rattle.perm_calls.specs.Calls.{firstBadImage, imagesVerdict, exact, towerOfCall}
-use Rattle.perm_calls.proofs.ImageVerdicts.{images-sized, images-unsized, images-accepted}
+use Rattle.perm_calls.specs.Calls.{imagesVerdict, exact, towerOfCall}
+use Rattle.perm_calls.proofs.ImageVerdicts.{images-unsized, images-accepted}
 use Rattle.perm_calls.proofs.Judged.{fits, done}
-use Rattle.image_walk.specs.Walk.{Held, Entries, Bad, held, holding, Vetted}
-use Rattle.image_walk.proofs.Held.{held-entries, held-index}
+use Rattle.image_walk.specs.Walk.{Entries, Bad, held, holding, Vetted}
+use Rattle.image_walk.proofs.Outcome.{end-bad, end-good}
 
 refused : {why : Refusal} → Refused why ≡ Accepted → ⊥
 refused {why} e = omega (arith, ap bit (accepts-unless true why e))
@@ -34,21 +32,17 @@ module _ (w entries : List ℕ) (r : ℕ) (some : length w ≢ 0) (few : length 
   end = e (length w) (omega arith)
 
   pub judged-bad : r < length w → Vetted w entries (Refused (Image r))
-  unfolding holding firstBadImage
+  unfolding holding
   judged-bad h =
       let holds : holding (length w) r entries ≡ Bad r = rw (less-yes h) refl in
-      let index : firstBadImage w ≡ r = held-index w (length w) (end ∙ holds) in
-      record { verdict = sym (images-sized w some few ∙ rw (index, less-yes h) refl); tower = λ t. absurd (refused t) }
+      record { verdict = sym (end-bad w some few (end ∙ holds)); tower = λ t. absurd (refused t) }
 
   pub judged-good : length w ≤ r → Vetted w entries Accepted
-  unfolding holding firstBadImage
+  unfolding holding
   judged-good h =
       let holds : holding (length w) r entries ≡ Entries (drop 1 (take (length w) entries)) = rw (less-no h) refl in
-      let told = held-entries w (length w) (end ∙ holds) in
-      record {
-        verdict = sym (images-sized w some few ∙ rw (less-no {x = firstBadImage w} {a = length w} (told .0)) refl);
-        tower = λ t. told .1 ∙ ap towerOf (take-all (length w) w (omega arith));
-      }
+      let good = end-good w some few (end ∙ holds) in
+      record { verdict = sym (good .0); tower = λ t. good .1 }
 
 -- ---- how the call ends
 

@@ -3,18 +3,17 @@
 use mathlib.Core.Path.{_≡_, refl, sym, ap, _∙_}
 use mathlib.Core.Bool.{true, false}
 use mathlib.Core.List.{List, []}
-use Prim.Native.Nat.{ℕ, suc, pred, _+_, _-_, _≤_, _<_}
+use Prim.Native.Nat.{ℕ, _+_, _≤_, _<_}
 use native.Mathlib.Omega.{arith}
 use lib.ListN.{length, getD, set, take, drop, length-set, length-drop}
 use lib.Seq.{length-take-le, getD-take, getD-drop, getD-set-same, getD-set-other, take-set-le, ext-getD}
-use Rattle.lists.specs.Lists.{less, first}
 use Rattle.lists.proofs.Test.{SameView, is, isnt, LessView, lt, ge, same?, less?, less-no}
+use Rattle.lists.proofs.Search.{first-there, first-more}
 use Rattle.perms.specs.Tower.{entry, towerOf}
+use Rattle.perms.proofs.Prefix.{getD-tower-take, length-tower-take}
 use Rattle.perm_calls.specs.Calls.{badImage}
 use Rattle.perm_calls.proofs.Seen.{Seen, seen-none}
 use Rattle.image_walk.specs.Walk.{Entries, Bad, held, holding}
-use Rattle.lists.proofs.Search.{first-there, first-more}
-use Rattle.perms.proofs.Prefix.{getD-tower-take, length-tower-take}
 use Rattle.image_walk.proofs.Held.{Good, held-good, held-bad, held-entries}
 
 -- after i images, none of them bad: the entries a_0, a_1, .. of these, so that what was held after each j of them still stands, and their mask
