@@ -10,7 +10,7 @@ use Rattle.lists.specs.Lists.{same, less, first, count}
 use Rattle.lists.proofs.Test.{LessView, lt, ge, less?, less-yes, less-no}
 use Rattle.lists.proofs.Search.{first-found, first-same}
 use Rattle.perms.specs.Tower.{towerOf}
-use Rattle.perms.proofs.Prefix.{tower-take}
+use Rattle.perms.proofs.Prefix.{tower-prefix}
 use Rattle.perm_calls.specs.Calls.{badImage, firstBadImage}
 use Rattle.image_walk.specs.Walk.{Held, Entries, Bad, held, Walk}
 
@@ -69,9 +69,9 @@ bad-alone w v j i size e h = ap₂ (λ (x : ℕ) (u : List ℕ). same x 0 || les
 pub walk : (w : List ℕ) (j : ℕ) → j ≤ length w → Walk w j
 unfolding firstBadImage held
 walk w j l = record {
-  before = λ h. held-good w j (good h (less? among j)) ∙ ap Entries (tower-take w j l);
+  before = λ h. held-good w j (good h (less? among j)) ∙ ap Entries (tower-prefix w j l);
   after = λ h. held-bad w j (omega (arith, found h, h)) ∙ ap Bad (found h);
-  prefix = sym (tower-take w j l);
+  prefix = sym (tower-prefix w j l);
   alone = λ v size e. rw (first-same (badImage v) (badImage w) 0 j (λ i h. bad-alone w v j i size e (omega arith)), e) refl;
 }
   where

@@ -10,7 +10,7 @@ use lib.Seq.{length-take-le, getD-take, getD-drop, getD-set-same, getD-set-other
 use Rattle.lists.proofs.Test.{SameView, is, isnt, LessView, lt, ge, same?, less?, less-no}
 use Rattle.lists.proofs.Search.{first-there, first-more}
 use Rattle.perms.specs.Tower.{entry, towerOf}
-use Rattle.perms.proofs.Prefix.{getD-tower-take, length-tower-take}
+use Rattle.perms.proofs.Prefix.{getD-tower-prefix, length-tower-prefix}
 use Rattle.perm_calls.specs.Calls.{badImage}
 use Rattle.perm_calls.proofs.Seen.{Seen, seen-none}
 use Rattle.image_walk.specs.Walk.{Entries, Bad, held, holding}
@@ -32,7 +32,7 @@ entry-more w entries i v h l t e = ext-getD 0 (towerOf (take (i + 1) w)) (drop 1
     next = set entries i v
 
     size : length (towerOf (take (i + 1) w)) ≡ i
-    size = length-tower-take w (i + 1) (omega arith) ∙ omega arith
+    size = length-tower-prefix w (i + 1) (omega arith) ∙ omega arith
 
     long : length (drop 1 (take (i + 1) next)) ≡ i
     long = length-drop 1 (take (i + 1) next) ∙ omega (arith, length-take-le (i + 1) next (omega (arith, length-set entries i v)))
@@ -42,11 +42,11 @@ entry-more w entries i v h l t e = ext-getD 0 (towerOf (take (i + 1) w)) (drop 1
 
     at : (k : ℕ) → k < i → SameView (1 + k) i → getD (towerOf (take (i + 1) w)) k 0 ≡ getD (drop 1 (take (i + 1) next)) k 0
     at k f (is p q) =
-        getD-tower-take w (i + 1) k (omega arith) (omega arith)
+        getD-tower-prefix w (i + 1) k (omega arith) (omega arith)
         ∙ sym (read k f ∙ ap (λ n. getD next n 0) p ∙ getD-set-same entries i v 0 l ∙ e ∙ ap (λ n. entry n w) (omega arith))
     at k f (isnt p q) =
-        getD-tower-take w (i + 1) k (omega arith) (omega arith)
-        ∙ sym (getD-tower-take w i k (omega arith) (omega arith))
+        getD-tower-prefix w (i + 1) k (omega arith) (omega arith)
+        ∙ sym (getD-tower-prefix w i k (omega arith) (omega arith))
         ∙ ap (λ u. getD u k 0) (sym t) ∙ getD-drop 1 (take i entries) k 0 ∙ getD-take i entries (1 + k) 0 (omega arith)
         ∙ sym (read k f ∙ getD-set-other entries i (1 + k) v 0 p)
 
@@ -54,7 +54,7 @@ pub walking-none : (w entries : List ℕ) → length entries ≡ 64 → Walking 
 walking-none w entries e = record { within = omega arith; room = e; holds = λ j h. go j (omega arith); mask = seen-none w }
   where
     none : length (towerOf (take 0 w)) ≡ 0
-    none = length-tower-take w 0 (omega arith)
+    none = length-tower-prefix w 0 (omega arith)
 
     go : (j : ℕ) → j ≡ 0 → held w j ≡ Entries (drop 1 (take j entries))
     go j z = rw z (held-good w 0 (omega arith) ∙ ap Entries (ext-getD 0 (towerOf (take 0 w)) [] none (λ k h. absurd (omega (arith, none)))))

@@ -12,17 +12,17 @@ entry-take : (w : List ℕ) (i j : ℕ) → i < j → entry i (take j w) ≡ ent
 unfolding entry
 entry-take w i j h = ap₂ above (getD-take j w i 0 h) (take-take i j w (omega arith))
 
-pub getD-tower-take : (w : List ℕ) (j k : ℕ) → j ≤ length w → suc k < j → getD (towerOf (take j w)) k 0 ≡ entry (suc k) w
-getD-tower-take w j k l h = getD-tower (take j w) k (omega (arith, length-take-le j w l)) ∙ entry-take w (suc k) j h
+pub getD-tower-prefix : (w : List ℕ) (j k : ℕ) → j ≤ length w → suc k < j → getD (towerOf (take j w)) k 0 ≡ entry (suc k) w
+getD-tower-prefix w j k l h = getD-tower (take j w) k (omega (arith, length-take-le j w l)) ∙ entry-take w (suc k) j h
 
-pub length-tower-take : (w : List ℕ) (j : ℕ) → j ≤ length w → length (towerOf (take j w)) ≡ pred j
-length-tower-take w j l = length-tower (take j w) ∙ omega (arith, length-take-le j w l)
+pub length-tower-prefix : (w : List ℕ) (j : ℕ) → j ≤ length w → length (towerOf (take j w)) ≡ pred j
+length-tower-prefix w j l = length-tower (take j w) ∙ omega (arith, length-take-le j w l)
 
-pub tower-take : (w : List ℕ) (j : ℕ) → j ≤ length w → towerOf (take j w) ≡ take (pred j) (towerOf w)
-tower-take w j l = ext-getD 0 (towerOf (take j w)) (take (pred j) (towerOf w)) (size ∙ sym long) at
+pub tower-prefix : (w : List ℕ) (j : ℕ) → j ≤ length w → towerOf (take j w) ≡ take (pred j) (towerOf w)
+tower-prefix w j l = ext-getD 0 (towerOf (take j w)) (take (pred j) (towerOf w)) (size ∙ sym long) at
   where
     size : length (towerOf (take j w)) ≡ pred j
-    size = length-tower-take w j l
+    size = length-tower-prefix w j l
 
     long : length (take (pred j) (towerOf w)) ≡ pred j
     long = length-take-le (pred j) (towerOf w) (omega (arith, length-tower w))
@@ -30,4 +30,4 @@ tower-take w j l = ext-getD 0 (towerOf (take j w)) (take (pred j) (towerOf w)) (
     at : (k : ℕ) → k < length (towerOf (take j w)) → getD (towerOf (take j w)) k 0 ≡ getD (take (pred j) (towerOf w)) k 0
     at k h =
         let low : suc k < j = omega (arith, size) in
-        getD-tower-take w j k l low ∙ sym (getD-take (pred j) (towerOf w) k 0 (omega arith) ∙ getD-tower w k (omega arith))
+        getD-tower-prefix w j k l low ∙ sym (getD-take (pred j) (towerOf w) k 0 (omega arith) ∙ getD-tower w k (omega arith))
