@@ -30,10 +30,10 @@ fn link(name: &str, out: &Path) {
     println!("cargo::rustc-link-lib=static={name}");
 }
 
-/// The product and the word action of an older archive, under names that begin with `before_`; its other names become local.
+/// Calls of an older archive, under names that begin with `before_`; its other names become local.
 fn renamed(archive: &str, out: &Path) {
     let mut objcopy = Command::new("objcopy");
-    for call in ["hecke_product", "hecke_act_word"] {
+    for call in ["hecke_product", "hecke_act_word", "hecke_tower_of_images"] {
         objcopy.arg(format!("--redefine-sym={call}=before_{call}")).arg(format!("--keep-global-symbol=before_{call}"));
     }
     run(objcopy.arg(archive).arg(out.join("libbefore.a")));

@@ -136,6 +136,20 @@ def bad_images():
         yield vector(TOWER_OF, images)
 
 
+def first_bad_images():
+    """A first bad image at each index, which is 0, too large or already seen, with bad images after it, and buffers that fit or do
+    not; and one of each kind, in every order."""
+    for n in (1, 2, 3, 6, 64):
+        kinds = 0, n + 1, n
+        for index in range(n):
+            for kind in range(3 if index else 2) if n < 64 else (index % 3,):
+                images = [*range(n, n - index, -1), *(kinds[(kind + later) % 3] for later in range(n - index))]
+                for more in (0, 1 - 2 * (index % 2)):
+                    yield vector(TOWER_OF, images, more=more)
+    for faults in arrangements((0, 7, IMAGES[0])):
+        yield vector(TOWER_OF, changed(IMAGES, *zip((1, 3, 4), faults)))
+
+
 def bad_entries():
     """Entries above their j at the first, a middle and the last index, and two faults; in either tower of a product."""
     faults = [((i, i + 2),) for i in (0, 3, 5)] + [((i, 255),) for i in (0, 3, 5)]
@@ -180,8 +194,10 @@ def order_of_checks():
         for first, second in ((bad, other[:5]), (bad, OTHER_TOWER[:5]), (TOWER[:5], other), (bad, [0] * 64),
                               ([0] * 64, other)):
             yield vector(PRODUCT, first, second, more=more)
-    # no image and a buffer; an entry too large, of which no word fits the buffer
+    # no image or 65 bad ones, and a buffer of any size; an entry too large, of which no word fits the buffer
     yield TOWER_OF, ([],), 1
+    yield TOWER_OF, ([0] * 65,), 0
+    yield TOWER_OF, ([255] * 65,), 7
     yield STANDARD_WORD, (changed(TOWER, (5, 255)),), 0
 
 
@@ -211,7 +227,7 @@ def random_bytes(source):
 def perms_vectors():
     """Calls of the seven functions on permutations and towers, and their whole outcomes."""
     source = random.Random(0)
-    vectors = [*document_cases(), *sizes(), *bad_images(), *bad_entries(), *buffers(), *order_of_checks(),
+    vectors = [*document_cases(), *sizes(), *bad_images(), *first_bad_images(), *bad_entries(), *buffers(), *order_of_checks(),
                *every_rank(source), *random_bytes(source)]
     yield 'crates/perms_vectors/stdin', b''.join(record(*v) for v in vectors)
     yield 'crates/perms_vectors/stdout', ''.join(line(*v) for v in vectors).encode()

@@ -186,6 +186,25 @@ static void permutations_refused(void) {
     REFUSED(hecke_tower_word(LIST(good), BYTES(1), ANSWER), 8, 0);
 }
 
+/* Lists of 1 to 64 images whose first bad image is 0, too large or already seen, at each index, with bad images alone after it. A
+ * tower of another size is not named, nor a bad image where the number of images is bad. */
+static void first_bad_images(void) {
+    for (uint8_t n = 1; n <= 64; n++) {
+        const uint8_t bad[] = {0, n + 1, n};
+        uint8_t images[64];
+        for (uint8_t at = 0; at < n; at++) {
+            for (int kind = 0; kind < (at == 0 ? 2 : 3); kind++) {
+                for (uint8_t i = 0; i < n; i++) images[i] = i < at ? n - i : bad[(kind + i - at) % 3];
+                REFUSED(hecke_tower_of_images(LIST_PART(images, n), BYTES(n - 1)), 6, at);
+                REFUSED(hecke_tower_of_images(LIST_PART(images, n), BYTES(n)), 6, at);
+            }
+        }
+    }
+    const uint8_t many[65] = {0};
+    REFUSED(hecke_tower_of_images(LIST(many), BYTES(1)), 5, 0);
+    REFUSED(hecke_tower_of_images(EMPTY, BYTES(1)), 5, 0);
+}
+
 /* 64 points in falling order: a_j is j, and every generator is a descent. */
 static void largest_rank(void) {
     uint8_t images[64], tower[63], word[2016], *end = word;
@@ -621,6 +640,7 @@ int main(void) {
     permutations();
     descents();
     permutations_refused();
+    first_bad_images();
     largest_rank();
     sizes();
     sums_and_scalings();

@@ -1,9 +1,13 @@
-//! The product and the word action of an older archive, where the build was given one by the variable HECKE_BEFORE.
+//! The product, the word action and the tower of an image list by an older archive, where the build was given one by the
+//! variable HECKE_BEFORE.
 
+use crate::towers::ToTower;
 use plain::sheet::{Action, Product};
 
 #[cfg(before)]
 mod archive {
+    use hecke::Refusal;
+
     extern "C" {
         fn before_hecke_act_word(
             m: usize,
@@ -30,6 +34,8 @@ mod archive {
             answer: *mut u64,
             answer_len: usize,
         ) -> u64;
+
+        fn before_hecke_tower_of_images(images: *const u8, images_len: usize, tower: *mut u8, tower_len: usize) -> u64;
     }
 
     pub fn act_word(m: usize, q: u64, word: &[u8], element: &mut [u64]) {
@@ -60,6 +66,16 @@ mod archive {
         };
         assert_eq!(refusal, 0);
     }
+
+    /// As `hecke::tower_of_images`, and never inlined, as that is not.
+    #[inline(never)]
+    pub fn tower_of_images(images: &[u8], tower: &mut [u8]) -> Result<(), Refusal> {
+        let (given, points) = (images.as_ptr(), images.len());
+        match unsafe { before_hecke_tower_of_images(given, points, tower.as_mut_ptr(), tower.len()) } {
+            0 => Ok(()),
+            word => Err(Refusal { number: (word & 255) as u8, place: word >> 8 }),
+        }
+    }
 }
 
 /// The product, if there is an older archive.
@@ -72,4 +88,10 @@ pub const PRODUCTS: &[Product] = &[
 pub const ACTIONS: &[Action] = &[
     #[cfg(before)]
     archive::act_word,
+];
+
+/// The tower of an image list, if there is an older archive.
+pub const TO_TOWERS: &[ToTower] = &[
+    #[cfg(before)]
+    archive::tower_of_images,
 ];

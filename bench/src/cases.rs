@@ -2,7 +2,8 @@
 
 use crate::clock::{agree, race, Times, INPUTS};
 use crate::pairing::{self, Pairing};
-use crate::{before, lists, nested, sheet, towers, tuned};
+use crate::random::Random;
+use crate::{before, image_lists, lists, nested, sheet, towers, tuned};
 use plain::sheet::{Action, Product};
 use std::iter::repeat;
 use std::path::Path;
@@ -29,6 +30,8 @@ pub struct Measured {
     pub signs: Vec<Both>,
     /// A pairing and a product.
     pub shares: Vec<Both>,
+    /// Image lists to towers, a million at a time.
+    pub image_lists: Vec<Row>,
 }
 
 type Conversion = fn(&[u8], &mut [u8]);
@@ -36,37 +39,9 @@ type Conversion = fn(&[u8], &mut [u8]);
 /// Changes an element of rank m at an odd q by a word of signed letters, left to right.
 type SignedAction = fn(m: usize, q: u64, word: &[i8], element: &mut [u64]);
 
-/// Random words, the same every time (xorshift).
-struct Random(u64);
-
-impl Random {
-    fn word(&mut self) -> u64 {
-        self.0 ^= self.0 << 13;
-        self.0 ^= self.0 >> 7;
-        self.0 ^= self.0 << 17;
-        self.0
-    }
-
-    fn below(&mut self, n: usize) -> usize {
-        (self.word() % n as u64) as usize
-    }
-
-    fn element(&mut self, m: usize) -> Vec<u64> {
-        (0..hecke::size(m)).map(|_| self.word()).collect()
-    }
-
-    fn signed_word(&mut self, m: usize) -> Vec<i8> {
-        (0..100).map(|_| (self.below(m) as i8 + 1) * if self.below(2) == 0 { 1 } else { -1 }).collect()
-    }
-
-    fn tower(&mut self, points: usize) -> Vec<u8> {
-        (1..points).map(|j| self.below(j + 1) as u8).collect()
-    }
-}
-
 /// Inputs made from the same random words in each case.
 fn inputs<T>(make: impl Fn(&mut Random) -> T) -> [T; INPUTS] {
-    let mut random = Random(0x9e37_79b9_7f4a_7c15);
+    let mut random = Random::new();
     [(); INPUTS].map(|_| make(&mut random))
 }
 
@@ -219,7 +194,7 @@ fn conversion(timed: bool, call: &'static str, points: usize, given: [Vec<u8>; I
 fn tower_of_images(timed: bool, points: usize) -> Row {
     let given = inputs(|random| plain::perm::of_tower(&random.tower(points)));
     let library = |images: &[u8], tower: &mut [u8]| hecke::tower_of_images(images, tower).unwrap();
-    let other = |images: &[u8], tower: &mut [u8]| towers::tower_of_images(images, tower).unwrap();
+    let other = |images: &[u8], tower: &mut [u8]| towers::in_one_pass(images, tower).unwrap();
     conversion(timed, "image list to tower", points, given, [library, other])
 }
 
@@ -260,7 +235,12 @@ pub fn rows(timed: bool) -> Vec<Row> {
     rows
 }
 
-/// All cases timed; signed letters beside plain ones, and the pairing beside the product, at each rank.
+/// All cases timed; signed letters beside plain ones, and the pairing beside the product, at each rank; runs over image lists.
 pub fn measured() -> Measured {
-    Measured { rows: rows(true), signs: (3..=6).map(signs).collect(), shares: (3..=6).map(shares).collect() }
+    Measured {
+        rows: rows(true),
+        signs: (3..=6).map(signs).collect(),
+        shares: (3..=6).map(shares).collect(),
+        image_lists: image_lists::rows(true),
+    }
 }

@@ -13,6 +13,13 @@ pub struct Times {
     pub median: f64,
 }
 
+impl Times {
+    /// The times of one of so many calls that were timed as one.
+    pub fn over(&self, calls: usize) -> Times {
+        Times { least: self.least / calls as f64, median: self.median / calls as f64 }
+    }
+}
+
 /// Panics unless all contenders make the same of each of the first inputs, each time in a copy of the blank output.
 pub fn agree<O: Clone + PartialEq>(contenders: &mut [impl FnMut(usize, &mut O)], inputs: usize, blank: &O, name: &str) {
     for i in 0..inputs {
@@ -35,9 +42,19 @@ fn batch<O>(run: &mut impl FnMut(usize, &mut O), first: usize, calls: usize, out
     start.elapsed().as_nanos() as f64 / calls as f64
 }
 
-/// Times the contenders in turn, round by round, for 3 seconds and at least 15 rounds. The calls of a batch take the first
-/// contender 0.2 ms or more.
+/// Times the contenders in turn, round by round, for 3 seconds and at least 15 rounds.
 pub fn race<O: Clone>(contenders: &mut [impl FnMut(usize, &mut O)], blank: &O) -> Vec<Times> {
+    race_for(contenders, blank, 3e9, 15)
+}
+
+/// Times the contenders in turn, round by round, for so many nanoseconds and at least so many rounds. The calls of a batch take
+/// the first contender 0.2 ms or more.
+pub fn race_for<O: Clone>(
+    contenders: &mut [impl FnMut(usize, &mut O)],
+    blank: &O,
+    nanoseconds: f64,
+    least: usize,
+) -> Vec<Times> {
     let mut output = blank.clone();
     let mut calls = 1;
     while calls as f64 * batch(&mut contenders[0], 0, calls, &mut output) < 2e5 {
@@ -45,7 +62,7 @@ pub fn race<O: Clone>(contenders: &mut [impl FnMut(usize, &mut O)], blank: &O) -
     }
     let once = contenders.iter_mut().map(|run| batch(run, 0, calls, &mut output));
     let round = once.sum::<f64>() * calls as f64;
-    let rounds = ((3e9 / round) as usize).max(15);
+    let rounds = ((nanoseconds / round) as usize).max(least);
     let mut times = vec![Vec::new(); contenders.len()];
     for k in 0..rounds {
         for (times, run) in times.iter_mut().zip(contenders.iter_mut()) {

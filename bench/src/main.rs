@@ -3,10 +3,12 @@
 mod before;
 mod cases;
 mod clock;
+mod image_lists;
 mod lists;
 mod nested;
 mod page;
 mod pairing;
+mod random;
 mod sheet;
 mod towers;
 mod tuned;
@@ -27,14 +29,10 @@ fn main() -> io::Result<()> {
     match words.iter().map(String::as_str).collect::<Vec<_>>()[..] {
         ["--sheet", method] => run_sheet(method)?,
         ["--check"] => {
-            let rows = cases::rows(false);
-            println!("{} cases: all contenders agree", rows.len());
+            let cases = cases::rows(false).len() + image_lists::rows(false).len();
+            println!("{cases} cases: all contenders agree");
         }
-        [] => {
-            let all = cases::measured();
-            let tables = [page::table(&all.rows), page::signs(&all.signs), page::shares(&all.shares), page::aims(&all)];
-            println!("{}", tables.join("\n"));
-        }
+        [] => println!("{}", page::tables(&cases::measured()).map(|(_, table)| table).join("\n")),
         ["--write"] => {
             let page = page::page(&cases::measured());
             print!("{page}");

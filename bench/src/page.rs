@@ -9,9 +9,9 @@ const HEAD: &str = "\
 # Benchmarks
 
 The library's calls beside plain Rust and C, all in one run on one machine. `cargo run --release --offline -p bench -- --write`
-makes this page; without `--write` it prints the four tables, and with `--check` it compares all results and times nothing. With
-the variable HECKE_BEFORE set to the full path of an older `libhecke_c.a`, its products and words take part too, as `before`: for this
-page that of the landing before.
+makes this page; without `--write` it prints the tables, and with `--check` it compares all results and times nothing. With the
+variable HECKE_BEFORE set to the full path of an older `libhecke_c.a`, its products, its words and its towers of image lists take part
+too, as `before`: for this page that of the landing before.
 ";
 
 const TERMS: &str = "
@@ -20,9 +20,10 @@ const TERMS: &str = "
 - **library**: the call through the wrapper `rust/hecke`, with all its checks. A sheet goes through the program `run_sheet`.
 - **(a)**: the same nested method in plain Rust, `bench/src/nested.rs`, with the machine's own wrapping multiplication. It has
   no case of its own for ranks 1 to 3, as the library has; this is why the library is the faster of the two. For towers,
-  plain Rust with the same checks, where larger images are counted in a mask of those seen, `bench/src/towers.rs`. For the
-  pairing, `bench/src/pairing.rs`: w and its inverse go down together through the ranks, so that the place of the inverse takes a
-  step for each w and no table; the library's walk is another, which carries weights and ends at rank 1. For sheets, the runner of `rust/plain` by this method.
+  plain Rust with the same checks, where larger images are counted in a mask of those seen, `bench/src/towers.rs`; an image list
+  is read in one pass, by the library's method. For the pairing, `bench/src/pairing.rs`: w and its inverse go down together through
+  the ranks, so that the place of the inverse takes a step for each w and no table; the library's walk is another, which carries
+  weights and ends at rank 1. For sheets, the runner of `rust/plain` by this method.
 - **C**: the same nested method in C tuned by hand, `bench/c/nested.c`, with the library's cases of their own (letters in place;
   letters at ranks 1 to 3, and T_a(2,2) at rank 2; a right factor of rank 1) and with no checks. It is compiled by cc and by clang
   with -O3 for any x86-64 processor, as the archive is; both take part, and the faster is shown. It has no signed letters. The
@@ -33,6 +34,9 @@ const TERMS: &str = "
   For sheets (b) is `rust/plain` as it is, its tables timed.
 - **(c)**: formula 4.4 with h T_v kept for each beginning of a word, so that each T_v costs one letter: (7/2) M² operations,
   and m (m + 1) / 2 + 1 lists of M words beside the scratch.
+- **one pass**: (a) for image lists. Each image is vetted and counted before the next is read; its entry goes into an array, which is
+  copied to the tower when all images are good.
+- **two passes**: the library's former method in plain Rust, `bench/src/towers.rs`: all images are vetted, then read again and counted.
 
 All results, and the scratch after a product, are compared before the clock starts. The contenders take turns, round by round,
 on the same of eight random inputs; a time is the mean over a batch of calls, the least over all rounds with the median in
@@ -47,6 +51,14 @@ Towers: of one point nothing is converted, and these rows are what a call costs 
 to 8 points it is a large part of the time, and the ratios there change with the layout of both programs: builds before this
 page gave 1.2 to 1.8 for tower to image list at 4 points, at 9 to 12 ns for (a).
 
+Image lists: a run is a million random lists, which stand one after another in memory, and its time is shown for one list. A bad
+list of n images has one bad image, at index 0, n / 2 or n - 1: it is 0, too large or, but for the first, already seen, as chance has
+it. The contenders take turns, run by run, on the same lists, for 2 seconds and at least 9 runs each. Before, each answer is held to
+what is due: the tower, or number 6 with the place and the buffer as it was. Whether the walk stops at the first bad image is judged by
+lists that are bad at the front, whose time must not grow with their size, and in the middle, whose time must be well below that of
+valid ones. Two passes count nothing in a bad list, and one pass has counted up to the bad image: where that comes late, two passes
+are the faster.
+
 ## What the inner loops compile to
 
 Read off the archive, which is for any x86-64 processor:
@@ -59,8 +71,11 @@ Read off the archive, which is for any x86-64 processor:
   no call. T_a(2,2) at rank 2 is straight code too.
 - Sums of blocks and of elements go up through their slices and become vector code, two words at a time. Scaling, and the move of a
   block times q, go down and take one multiplication a word.
-- The check of an image list and the making of a tower have a shift, a test or an addition for each image; the set bits are
-  counted by shifts, masks and a multiplication, since not every such processor has an instruction for it.
+- The walk over an image list is one loop. For each image it has one load from the list, the tests, two shifts, the count and one
+  store into an array of 64 bytes on the stack. The set bits are counted by shifts, masks and a multiplication, since not every such
+  processor has an instruction for it. The array is set to zero by four stores of 16 bytes before the loop, and copied to the tower by a
+  call of `memcpy` after it. Plain Rust in one pass has such a loop too, with the same four stores and the same call; in two passes the
+  first loop has a load and the tests for each image, and the second another load and the count.
 - The images of a tower are made by vector code, 16 bytes at a time.
 - A slice passes through memory, as an address and a length, and so does what finds no register. Loops over two slices are made
   twice by the compiler, for slices that overlap and for those that do not, since it is not told that they do not. The size of a
@@ -90,26 +105,50 @@ fn decimals(ratio: f64) -> String {
     }
 }
 
-/// The columns of times; the last is there where an older archive is.
-const CONTENDERS: &[&str] = &[
-    "library",
-    "(a)",
-    "C",
-    "(b)",
-    "(c)",
-    #[cfg(before)]
-    "before",
-];
+/// The columns of a table of rows: what a row is, the contenders and the ratios. `before` is there where an older archive is.
+struct Columns {
+    row: [&'static str; 2],
+    times: &'static [&'static str],
+    ratios: &'static [(&'static str, &'static str)],
+}
 
-/// The columns of ratios.
-const RATIOS: &[(&str, &str)] = &[
-    ("library", "(a)"),
-    ("library", "C"),
-    ("(b)", "library"),
-    ("(c)", "library"),
-    #[cfg(before)]
-    ("library", "before"),
-];
+const TIMES: Columns = Columns {
+    row: ["call", "size"],
+    times: &[
+        "library",
+        "(a)",
+        "C",
+        "(b)",
+        "(c)",
+        #[cfg(before)]
+        "before",
+    ],
+    ratios: &[
+        ("library", "(a)"),
+        ("library", "C"),
+        ("(b)", "library"),
+        ("(c)", "library"),
+        #[cfg(before)]
+        ("library", "before"),
+    ],
+};
+
+const IMAGE_LISTS: Columns = Columns {
+    row: ["lists", "size"],
+    times: &[
+        "library",
+        "one pass",
+        "two passes",
+        #[cfg(before)]
+        "before",
+    ],
+    ratios: &[
+        ("library", "one pass"),
+        ("library", "two passes"),
+        #[cfg(before)]
+        ("library", "before"),
+    ],
+};
 
 impl Row {
     /// The times of a contender, where it is there; of several by one name, the fastest.
@@ -123,10 +162,10 @@ impl Row {
         Some(self.of(upper)?.least / self.of(lower)?.least)
     }
 
-    fn line(&self) -> String {
-        let times = CONTENDERS.iter().map(|name| time(self.of(name)));
+    fn line(&self, columns: &Columns) -> String {
+        let times = columns.times.iter().map(|name| time(self.of(name)));
         let ratio = |ratio: Option<f64>| ratio.map_or("–".to_string(), decimals);
-        let ratios = RATIOS.iter().map(|(upper, lower)| ratio(self.ratio(upper, lower)));
+        let ratios = columns.ratios.iter().map(|(upper, lower)| ratio(self.ratio(upper, lower)));
         joined([self.call.to_string(), self.size.clone()].into_iter().chain(times).chain(ratios))
     }
 }
@@ -136,12 +175,33 @@ fn joined(cells: impl Iterator<Item = String>) -> String {
     format!("| {} |\n", cells.collect::<Vec<_>>().join(" | "))
 }
 
-/// The table of times and ratios.
-pub fn table(rows: &[Row]) -> String {
-    let names = ["call", "size"].iter().chain(CONTENDERS).map(|name| name.to_string());
-    let heads = names.chain(RATIOS.iter().map(|(upper, lower)| format!("{upper} / {lower}")));
-    let rule = "|---".repeat(2 + CONTENDERS.len() + RATIOS.len());
-    let lines: String = rows.iter().map(Row::line).collect();
+/// At which sizes of valid lists the library takes at most so many times the time of another, and at which it takes more.
+fn holding(rows: &[Row], lower: &str, most: f64) -> String {
+    let valid: Vec<&Row> = rows.iter().filter(|row| row.call == "valid").collect();
+    let sizes = |holds: bool| {
+        let those = valid.iter().filter(|row| row.ratio("library", lower).is_some_and(|ratio| (ratio <= most) == holds));
+        let sizes: Vec<&str> = those.map(|row| row.size.trim_end_matches(" points")).collect();
+        if sizes.is_empty() {
+            "no size".to_string()
+        } else {
+            format!("{} points", sizes.join(", "))
+        }
+    };
+    format!("Valid lists: library / {lower} is at most {most} at {}, and above at {}.\n", sizes(true), sizes(false))
+}
+
+/// The table of the runs over image lists, and at which sizes of valid ones the ratios of their aims hold.
+fn image_lists(rows: &[Row]) -> String {
+    let (two, one) = (holding(rows, "two passes", 1.0), holding(rows, "one pass", 1.15));
+    format!("{}\n{two}{one}", table(&IMAGE_LISTS, rows))
+}
+
+/// A table of times and ratios.
+fn table(columns: &Columns, rows: &[Row]) -> String {
+    let names = columns.row.iter().chain(columns.times).map(|name| name.to_string());
+    let heads = names.chain(columns.ratios.iter().map(|(upper, lower)| format!("{upper} / {lower}")));
+    let rule = "|---".repeat(2 + columns.times.len() + columns.ratios.len());
+    let lines: String = rows.iter().map(|row| row.line(columns)).collect();
     format!("{}{rule}|\n{lines}", joined(heads))
 }
 
@@ -163,13 +223,37 @@ fn both(heads: [&str; 3], all: &[Both]) -> String {
 }
 
 /// The table of signed letters beside plain ones.
-pub fn signs(all: &[Both]) -> String {
+fn signs(all: &[Both]) -> String {
     both(["100 signed letters", "100 plain letters", "signed / plain"], all)
 }
 
 /// The table of the pairing beside the product.
-pub fn shares(all: &[Both]) -> String {
+fn shares(all: &[Both]) -> String {
     both(["pairing", "product", "pairing / product"], all)
+}
+
+/// The aims of the runs over image lists.
+fn of_image_lists(rows: &[Row]) -> Vec<(&'static str, f64, bool)> {
+    let row =
+        |kind: &str, points: usize| rows.iter().find(|row| row.call == kind && row.size == format!("{points} points")).unwrap();
+    let largest = |sizes: &[usize], lower: &str| {
+        sizes.iter().filter_map(|&points| row("valid", points).ratio("library", lower)).fold(0.0, f64::max)
+    };
+    let least = |kind: &str, points: usize| row(kind, points).of("library").unwrap().least;
+    let (former, one) = (largest(&[8, 16, 32, 64], "two passes"), largest(&[4, 8, 16, 32, 64], "one pass"));
+    let front = least("bad at the front", 64) / least("bad at the front", 4);
+    let middle = least("bad in the middle", 64) / least("valid", 64);
+    let mut aims = vec![
+        ("valid image lists from 8 points on: library / two passes at most 1", former, former <= 1.0),
+        ("valid image lists: library / one pass at most 1.15 at each size", one, one <= 1.15),
+        ("image lists bad at the front: 64 points / 4 points at most 1.25", front, front <= 1.25),
+        ("image lists of 64 points: bad in the middle / valid at most 0.6", middle, middle <= 0.6),
+    ];
+    if cfg!(before) {
+        let before = largest(&[8, 16, 32, 64], "before");
+        aims.push(("valid image lists from 8 points on: library / before at most 1", before, before <= 1.0));
+    }
+    aims
 }
 
 /// The aims, each with what was measured and whether it holds.
@@ -196,6 +280,7 @@ fn judged(all: &Measured) -> Vec<(&'static str, f64, bool)> {
         ("signed / plain letters at most 1.05 at ranks 3 to 6", signed, signed <= 1.05),
         ("pairing / product below 0.1 at rank 5", share, share < 0.1),
     ];
+    aims.extend(of_image_lists(&all.image_lists));
     if cfg!(before) {
         let (product, word) = (largest("product", "before"), largest("word of 100 letters", "before"));
         aims.push(("product: library / before at most 1.02 at each rank", product, product <= 1.02));
@@ -205,7 +290,7 @@ fn judged(all: &Measured) -> Vec<(&'static str, f64, bool)> {
 }
 
 /// The table of the aims.
-pub fn aims(all: &Measured) -> String {
+fn aims(all: &Measured) -> String {
     let mut text = String::from("| aim | measured | holds |\n|---|---|---|\n");
     for (aim, measured, holds) in judged(all) {
         writeln!(text, "| {aim} | {} | {} |", decimals(measured), if holds { "yes" } else { "no" }).unwrap();
@@ -230,14 +315,19 @@ fn machine() -> String {
     format!("Processor: {name}, {cores} cores. Compilers: {}.{missing}\n", compilers.join("; "))
 }
 
-/// The whole page.
-pub fn page(all: &Measured) -> String {
-    let parts = [
-        ("Times", table(&all.rows)),
+/// The tables, each with its title.
+pub fn tables(all: &Measured) -> [(&'static str, String); 5] {
+    [
+        ("Times", table(&TIMES, &all.rows)),
         ("Letters both ways", signs(&all.signs)),
         ("The pairing beside the product", shares(&all.shares)),
+        ("Image lists, a million at a time", image_lists(&all.image_lists)),
         ("Aims", aims(all)),
-    ];
-    let tables = parts.map(|(title, table)| format!("\n## {title}\n\n{table}")).concat();
+    ]
+}
+
+/// The whole page.
+pub fn page(all: &Measured) -> String {
+    let tables = tables(all).map(|(title, table)| format!("\n## {title}\n\n{table}")).concat();
     format!("{HEAD}\n{}{tables}{TERMS}", machine())
 }

@@ -1,7 +1,52 @@
-//! Image lists and towers, each made from the other, in plain Rust with the library's checks. Both are calls, never inlined,
-//! as the library's are.
+//! Image lists and towers, each made from the other, in plain Rust with the library's checks. All are calls, never inlined,
+//! as the library's are. An image x is at bit x - 1 of the mask of those seen.
 
-/// The index of the first image that is 0, too large or already seen. Image x is at bit x - 1 of the seen ones.
+use hecke::Refusal;
+
+/// The tower of an image list, or the refusal.
+pub type ToTower = fn(images: &[u8], tower: &mut [u8]) -> Result<(), Refusal>;
+
+fn refused(number: u8, place: usize) -> Result<(), Refusal> {
+    Err(Refusal { number, place: place as u64 })
+}
+
+/// Puts for each image the number of larger ones before it, up to the first image that is 0, too large or already seen, and
+/// gives the index of that one.
+fn walk(images: &[u8], entries: &mut [u8; 64]) -> Option<usize> {
+    let mut seen = 0u64;
+    for (i, (&x, entry)) in images.iter().zip(entries).enumerate() {
+        if x == 0 || x as usize > images.len() {
+            return Some(i);
+        }
+        let from = seen >> (x - 1);
+        if from & 1 == 1 {
+            return Some(i);
+        }
+        *entry = from.count_ones() as u8;
+        seen |= 1 << (x - 1);
+    }
+    None
+}
+
+/// The tower of an image list in one pass, by the library's method: each image is vetted and counted before the next is read, and
+/// the entries are in an array until all images are good.
+#[inline(never)]
+pub fn in_one_pass(images: &[u8], tower: &mut [u8]) -> Result<(), Refusal> {
+    if images.is_empty() || images.len() > 64 {
+        return refused(5, 0);
+    }
+    let mut entries = [0; 64];
+    if let Some(place) = walk(images, &mut entries) {
+        return refused(6, place);
+    }
+    if tower.len() + 1 != images.len() {
+        return refused(8, 0);
+    }
+    tower.copy_from_slice(&entries[1..images.len()]);
+    Ok(())
+}
+
+/// The index of the first image that is 0, too large or already seen.
 fn bad_image(images: &[u8]) -> Option<usize> {
     let mut seen = 0u64;
     images.iter().position(|&x| {
@@ -13,17 +58,17 @@ fn bad_image(images: &[u8]) -> Option<usize> {
     })
 }
 
-/// The tower of an image list, or the number and the place of the refusal.
+/// The tower of an image list in two passes, as the library had it formerly: all images are vetted, then all are counted.
 #[inline(never)]
-pub fn tower_of_images(images: &[u8], tower: &mut [u8]) -> Result<(), (u8, usize)> {
+pub fn in_two_passes(images: &[u8], tower: &mut [u8]) -> Result<(), Refusal> {
     if images.is_empty() || images.len() > 64 {
-        return Err((5, 0));
+        return refused(5, 0);
     }
     if let Some(place) = bad_image(images) {
-        return Err((6, place));
+        return refused(6, place);
     }
     if tower.len() + 1 != images.len() {
-        return Err((8, 0));
+        return refused(8, 0);
     }
     let mut seen = 1u64 << (images[0] - 1);
     for (a, &x) in tower.iter_mut().zip(&images[1..]) {
@@ -33,17 +78,17 @@ pub fn tower_of_images(images: &[u8], tower: &mut [u8]) -> Result<(), (u8, usize
     Ok(())
 }
 
-/// The image list of a tower, or the number and the place of the refusal.
+/// The image list of a tower, or the refusal.
 #[inline(never)]
-pub fn images_of_tower(tower: &[u8], images: &mut [u8]) -> Result<(), (u8, usize)> {
+pub fn images_of_tower(tower: &[u8], images: &mut [u8]) -> Result<(), Refusal> {
     if tower.len() > 63 {
-        return Err((5, 0));
+        return refused(5, 0);
     }
     if let Some(place) = tower.iter().zip(1..).position(|(&a, j)| a > j) {
-        return Err((7, place));
+        return refused(7, place);
     }
     if images.len() != tower.len() + 1 {
-        return Err((8, 0));
+        return refused(8, 0);
     }
     images[0] = 1;
     for (&a, j) in tower.iter().zip(1..) {

@@ -8,7 +8,8 @@ from itertools import count
 from pathlib import Path
 
 from reference.algebra import letter_count, lengths_and_inverses, pairing, permutations, product_count, size
-from reference.permutations import standard_word, tower
+from reference.permutations import call_tower, standard_word, tower
+from reference.refusals import Refused
 from reference.sheet import MOST_BYTES, OPERANDS, check, printed
 from tools.alexander import described, image, shown, value
 from tools.sheet_text import CODES, FORMS, NAMES, refusal, to_bytes
@@ -113,6 +114,20 @@ class Tables(unittest.TestCase):
         self.assertIn(f'5 at index 17 and 7 at index {other} give 5 · 7 · q^{length}.', sentences)
         first, second = (w for w, (_, v) in enumerate(lengths_and_inverses(2)) if v != w)
         self.assertIn(f'At rank 2 only the indexes {first} and {second}, of s1s2 and s2s1, change places', sentences)
+
+    def test_image_lists(self):
+        """The lists that come in turn to one buffer, and a refusal as one word."""
+        buffer, rows = [9, 9, 9], []
+        for images in ([2, 0, 5, 2], [4, 3, 1, 2], [3, 1, 3, 9], [3, 1, 2, 5], [2, 3, 1], [2, 3, 3], [], [3, 1, 4, 2]):
+            try:
+                call_tower(images, buffer)
+                answer = 'accepted'
+            except Refused as refusal:
+                answer = f'{refusal.number} at {refusal.place}'
+            shown_list = f'`{" ".join(map(str, images))}`' if images else 'none'
+            rows.append(row(shown_list, answer, ' '.join(map(str, buffer))))
+        self.assertIn('\n| images | answer | buffer afterwards |\n|---|---|---|\n' + '\n'.join(rows) + '\n\n', GUIDE)
+        self.assertIn(f'6 at 1 is the word {6 + 256 * 1}.', ' '.join(GUIDE.split()))
 
     def test_one_braid_in_other_letters(self):
         self.assertIn('`1 2 1` and `2 1 2` are the same braid', ' '.join(GUIDE.split()))

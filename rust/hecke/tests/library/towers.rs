@@ -147,6 +147,55 @@ fn damaged_at_every_byte() {
     }
 }
 
+/// Images that are bad after those before them: 0, too large, too large by far and, but for the first, already seen.
+fn bad_images(before: &[u8], points: usize) -> Vec<u8> {
+    [0, points as u8 + 1, 255].iter().chain(before.first()).chain(before.last()).copied().collect()
+}
+
+/// Image lists of every size whose first bad image is of each kind at each index: alone, with another bad image after it, and with
+/// bad images alone after it. Buffers that do not fit are not named.
+#[test]
+fn first_bad_image_at_every_index() {
+    let random = &mut Random(10);
+    for points in 1..=64 {
+        let images = random.images(points);
+        for at in 0..points {
+            for bad in bad_images(&images[..at], points) {
+                let mut list = images.clone();
+                list[at] = bad;
+                let (mut two, mut rest) = (list.clone(), list.clone());
+                for index in at + 1..points {
+                    rest[index] = random.pick(&bad_images(&list[..=at], points));
+                }
+                let later = random.below(points - at) + at;
+                two[later] = rest[later];
+                for list in [list, two, rest] {
+                    for room in [points - 1, points, points.saturating_sub(2), 0, 100] {
+                        assert_eq!(tower_of_images(random, &list, room), Err((6, at as u64)), "{list:?}");
+                    }
+                }
+            }
+        }
+    }
+}
+
+/// A good image list with a buffer that does not fit; no image and too many, good and bad, with any buffer.
+#[test]
+fn image_lists_refused_by_size() {
+    let random = &mut Random(11);
+    for points in 1..=64 {
+        for room in (0..=66).filter(|&room| room != points - 1) {
+            let images = random.images(points);
+            assert_eq!(tower_of_images(random, &images, room), Err((8, 0)));
+        }
+    }
+    for list in [random.images(65), vec![0; 65], vec![255; 65], vec![1; 66], vec![0; 1000], vec![]] {
+        for room in [0, 1, 63, 64, 65, list.len()] {
+            assert_eq!(tower_of_images(random, &list, room), Err((5, 0)));
+        }
+    }
+}
+
 /// Two towers, each good or bad in its size or an entry, and rooms good and bad, in every combination.
 #[test]
 fn faults_together() {
