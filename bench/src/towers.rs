@@ -15,15 +15,16 @@ fn refused(number: u8, place: usize) -> Result<(), Refusal> {
 fn walk(images: &[u8], entries: &mut [u8; 64]) -> Option<usize> {
     let mut seen = 0u64;
     for (i, (&x, entry)) in images.iter().zip(entries).enumerate() {
-        if x == 0 || x as usize > images.len() {
+        let bit = x.wrapping_sub(1);
+        if bit as usize >= images.len() {
             return Some(i);
         }
-        let from = seen >> (x - 1);
+        let from = seen >> bit;
         if from & 1 == 1 {
             return Some(i);
         }
         *entry = from.count_ones() as u8;
-        seen |= 1 << (x - 1);
+        seen |= 1 << bit;
     }
     None
 }
