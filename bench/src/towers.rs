@@ -11,7 +11,7 @@ fn refused(number: u8, place: usize) -> Result<(), Refusal> {
 }
 
 /// Puts for each image the number of larger ones before it, up to the first image that is 0, too large or already seen, and
-/// gives the index of that one.
+/// gives the index of that one. The bit of 0 is 255.
 fn walk(images: &[u8], entries: &mut [u8; 64]) -> Option<usize> {
     let mut seen = 0u64;
     for (i, (&x, entry)) in images.iter().zip(entries).enumerate() {
