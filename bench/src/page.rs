@@ -71,12 +71,13 @@ Read off the archive, which is for any x86-64 processor:
   no call. T_a(2,2) at rank 2 is straight code too.
 - Sums of blocks and of elements go up through their slices and become vector code, two words at a time. Scaling, and the move of a
   block times q, go down and take one multiplication a word.
-- The walk over an image list is one loop in the call itself. For each image it has one load from the list, one comparison for both 0
-  and too large, the test of a bit for already seen, two shifts, the count and one store into an array of 64 bytes on the stack. The
-  set bits are counted by shifts, masks and a multiplication, since not every such processor has an instruction for it. The array is set
-  to zero by four stores of 16 bytes before the loop, and copied to the tower by a call of `memcpy` after it. Plain Rust in one pass has
-  such a loop too, with the same four stores and the same call; in two passes the first loop has a load and the tests for each image, and
-  the second another load and the count.
+- The walk over an image list is one loop in the call itself. For each image it has one load from the list, one comparison for
+  both 0 and too large, the test of a bit for already seen, a shift, the count, one store into an array of 64 bytes on the
+  stack, and one instruction that sets the bit; an addition goes along, which keeps the word of a refusal ready. The set bits
+  are counted by shifts, masks and a multiplication, since not every such processor has an instruction for it. The array is set
+  to zero by four stores of 16 bytes before the loop, and copied to the tower by a call of `memcpy` after it. Plain Rust in one
+  pass has such a loop too, with the same four stores and the same call; in two passes the first loop has a load and the tests
+  for each image, and the second another load and the count.
 - The images of a tower are made by vector code, 16 bytes at a time.
 - A slice passes through memory, as an address and a length, and so does what finds no register. Loops over two slices are made
   twice by the compiler, for slices that overlap and for those that do not, since it is not told that they do not. The size of a

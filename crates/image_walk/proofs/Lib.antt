@@ -1,4 +1,5 @@
 mod Examples
+mod Digit
 pub mod Held
 pub mod Outcome
 mod Walking

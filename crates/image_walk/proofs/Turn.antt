@@ -1,10 +1,11 @@
--- One turn of the walk's loop, by the bit b of its image, which is b + 1 modulo 2^8. Rests on Walking and perm_calls' Seen and SeenDigits.
+-- One turn of the walk's loop, by the bit b of its image, which is b + 1 modulo 2^8. Rests on Digit, Walking and perm_calls' Seen and SeenDigits.
 use mathlib.Core.Path.{_≡_, sym, ap, subst, _∙_}
 use mathlib.Core.Logic.{_≢_}
 use mathlib.Core.Bool.{false}
 use mathlib.Core.List.{List}
 use Prim.Native.Nat.{ℕ, _+_, _-_, _*_, _/_, _%_, _^_, _≤_, _<_}
 use native.Mathlib.Omega.{arith}
+use lib.Bits.{bitOr}
 use lib.Count.{ones}
 use lib.ListN.{length, getD, set}
 use Rattle.lists.specs.Lists.{bit}
@@ -12,9 +13,10 @@ use Rattle.lists.proofs.Test.{bit-true, bit-false}
 use Rattle.perms.specs.Tower.{entry}
 use Rattle.perms.proofs.Tower.{entry-le}
 use Rattle.perm_calls.specs.Calls.{badImage}
-use Rattle.perm_calls.proofs.Seen.{Seen, New, seen-more, seen-fits, good-new}
+use Rattle.perm_calls.proofs.Seen.{Seen, New, seen-more, good-new}
 use Rattle.perm_calls.proofs.SeenDigits.{seen-entry, outside-bad, bad-digit}
 use Rattle.image_walk.specs.Walk.{held, holding}
+use Rattle.image_walk.proofs.Digit.{mark-digit}
 use Rattle.image_walk.proofs.Walking.{Walking, walking-more, walking-bad}
 
 -- the image of a turn, and what the code holds before it
@@ -54,14 +56,14 @@ module _ {w entries : List ℕ} {seen i b : ℕ} (t : Turn w entries seen i b) w
       counted : ones (seen / 2 ^ b) ≡ entry i w
       counted = ap (λ n. ones (seen / 2 ^ n)) at ∙ seen-entry new (t .walking .mask)
 
-      marked : Seen w (seen + (1 * 2 ^ b) % 2 ^ 64) (i + 1)
-      marked = subst (λ n. Seen w (seen + (1 * 2 ^ n) % 2 ^ 64) (i + 1)) (sym at) (seen-more (t .inside) new (t .walking .mask))
+      marked : Seen w (bitOr seen ((1 * 2 ^ b) % 2 ^ 64)) (i + 1)
+      marked =
+          let unset : seen / 2 ^ b % 2 ≡ 0 = digit ∙ ap bit good in
+          let next = subst (λ n. Seen w (seen + (1 * 2 ^ n) % 2 ^ 64) (i + 1)) (sym at) (seen-more (t .inside) new (t .walking .mask)) in
+          subst (λ n. Seen w n (i + 1)) (sym (mark-digit b seen (omega (arith, t .few)) unset)) next
 
       pub turn-count : ones (seen / 2 ^ b) ≤ 64
       turn-count = omega (arith, counted, entry-le i w, t .inside, t .few)
 
-      pub turn-mask : seen + (1 * 2 ^ b) % 2 ^ 64 < 2 ^ 64
-      turn-mask = seen-fits marked
-
-      pub turn-good : Walking w (set entries i (ones (seen / 2 ^ b))) (seen + (1 * 2 ^ b) % 2 ^ 64) (i + 1)
+      pub turn-good : Walking w (set entries i (ones (seen / 2 ^ b))) (bitOr seen ((1 * 2 ^ b) % 2 ^ 64)) (i + 1)
       turn-good = walking-more (t .walking) _ (t .inside) (t .few) good counted marked

@@ -27,7 +27,7 @@ fn walk(images: &[u8], entries: &mut [u8]) -> usize
             return i;
         }
         entries[i] = u64::count_ones(from) as u8;
-        seen += 1 << bit;
+        seen |= 1 << bit;
     }
     images.len()
 }

@@ -3,7 +3,7 @@ use Prim.Native.Nat.{_-_}
 use native.Mathlib.Omega.{arith}
 use borrow.Author.Needs.{needs}
 use Rattle.image_walk.proofs.Walking.{Walking, walking-none, walking-all}
-use Rattle.image_walk.proofs.Turn.{Turn, turn-outside, turn-seen, turn-count, turn-mask, turn-good}
+use Rattle.image_walk.proofs.Turn.{Turn, turn-outside, turn-seen, turn-count, turn-good}
 use Rattle.image_walk.proofs.walk.Statement.{statement}
 use Rattle.image_walk.proofs.walk.Tie as tie
 
@@ -51,13 +51,10 @@ returns-3 c = walking-all (c .before .loop .inv) (omega arith)
 cast-entries : tie.Need-cast-entries Inv-loop μ-loop
 cast-entries c = omega (arith, turn-count (turn (c .before .before)) (omega (arith, c .before .if1 .left)) (λ e. omega (arith, c .if2 .left)))
 
-add-seen : tie.Need-add-seen Inv-loop μ-loop
-add-seen c = record { fits = turn-mask (turn (c .before .before)) (omega (arith, c .before .if1 .left)) (λ e. omega (arith, c .if2 .left)) }
-
 pub walk-spec : {M : Type 1} → statement M
 walk-spec =
     tie.close
     (tie.spec Inv-loop μ-loop loop-holds (λ c. omega arith) (λ c κs. search needs) (λ c. omega (arith, c .wrapping-sub-u8 .ok))
     (λ c. omega arith) returns (λ c. omega arith) (λ c. omega arith) (λ c. omega arith) returns-2 cast-entries (λ c. omega arith)
-    (λ c. omega arith) (λ c. omega arith) add-seen (λ c. omega arith) (λ c. omega arith) loop-again
+    (λ c. omega arith) (λ c. omega arith) (λ c. omega arith) (λ c. omega arith) loop-again
     (λ c. omega arith) returns-3)
