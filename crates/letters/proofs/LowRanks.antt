@@ -1,4 +1,4 @@
--- A letter on elements of rank 1 and 2, by the exchanges that are made, and on blocks of rank 3. Rests on algebra's LowRanks, block_loops' Fits and
+-- A letter on elements of rank 1 and 2, by the exchanges that are made, and on blocks of rank 4. Rests on algebra's LowRanks, block_loops' Fits and
 -- lists' InRow.
 use mathlib.Core.Path.{_≡_, sym, ap, _∙_}
 use mathlib.Core.List.{List, _++_}
@@ -30,17 +30,17 @@ pub rank-two-size : {j : ℕ} {x : List ℕ} → LetterPre 2 j x → length x �
 unfolding factorial
 rank-two-size p = p .size
 
-rank-three-blocks : {m b n j : ℕ} {x : List ℕ} → m ≡ 3 → EachLetterPre m b n j x → b ≡ 24
+rank-four-blocks : {m b n j : ℕ} {x : List ℕ} → m ≡ 4 → EachLetterPre m b n j x → b ≡ 120
 unfolding factorial
-rank-three-blocks e p = p .block-size ∙ ap (λ (k : ℕ). factorial (suc k)) e
+rank-four-blocks e p = p .block-size ∙ ap (λ (k : ℕ). factorial (suc k)) e
 
-pub rank-three-pre : {m b n j : ℕ} {x : List ℕ} → m ≡ 3 → EachLetterPre m b n j x → EachLetterPre 3 24 n j x
+pub rank-four-pre : {m b n j : ℕ} {x : List ℕ} → m ≡ 4 → EachLetterPre m b n j x → EachLetterPre 4 120 n j x
 unfolding factorial
-rank-three-pre {m} {b} {n} {j} e p = record {
+rank-four-pre {m} {b} {n} {j} e p = record {
   rank = omega arith;
   block-size = omega arith;
   letter = λ h. let l : Letter m j = p .letter h in record { low = l .low; high = omega (arith, l .high) };
-  size = p .size ∙ ap (λ (k : ℕ). n * k) (rank-three-blocks e p);
+  size = p .size ∙ ap (λ (k : ℕ). n * k) (rank-four-blocks e p);
 }
 
 module _ (w : Way) (p : Parameters) where
@@ -78,9 +78,9 @@ module _ (w : Way) (p : Parameters) where
         both 4 2 1 (omega arith) (omega arith) s e₁ e₂
         ∙ sym (rank-two-2 ℕ (ring p) (exchanging w p) x (rank-two-size pre)) ∙ ap (λ (i : ℕ). lettered w p 2 i x) e
 
-  -- ---- blocks of rank 3
+  -- ---- blocks of rank 4
 
-  pub blocks-three : {m b n j : ℕ} {x v : List ℕ} → m ≡ 3 → EachLetterPre m b n j x → v ≡ blocks n (λ k. lettered w p 3 j (block 24 k x))
+  pub blocks-four : {m b n j : ℕ} {x v : List ℕ} → m ≡ 4 → EachLetterPre m b n j x → v ≡ blocks n (λ k. lettered w p 4 j (block 120 k x))
       → v ≡ blocks n (λ k. lettered w p m j (block b k x))
-  blocks-three {m} {b} {n} {j} {x} e pre h =
-      h ∙ (λ i. blocks n (λ k. lettered w p (sym e i) j (block (sym (rank-three-blocks e pre) i) k x)))
+  blocks-four {m} {b} {n} {j} {x} e pre h =
+      h ∙ (λ i. blocks n (λ k. lettered w p (sym e i) j (block (sym (rank-four-blocks e pre) i) k x)))

@@ -17,6 +17,10 @@ pub fn letter(x: &mut [u64], m: usize, j: usize, way: Way, p: Parameters)
     if !letter_fits(m, j, x.len()) {
         return;
     }
+    if m == 4 {
+        letter_of_rank_four(x, j, way, p);
+        return;
+    }
     if m == 3 {
         letter_of_rank_three(x, j, way, p);
         return;
@@ -48,10 +52,10 @@ fn letter_fits(m: usize, j: usize, n: usize) -> bool
     n == ranks::size(m)
 }
 
-// The letter j on x, of rank m, from 4 on. The blocks m - j and m - j + 1 change together; on each other block the letter j or
+// The letter j on x, of rank m, from 5 on. The blocks m - j and m - j + 1 change together; on each other block the letter j or
 // j - 1 acts by itself.
 fn by_blocks(x: &mut [u64], m: usize, j: usize, way: Way, p: Parameters)
-    requires { ⌜ (4 ≤ m) × LetterPre m j (now x) ⌝ }
+    requires { ⌜ (5 ≤ m) × LetterPre m j (now x) ⌝ }
     ensures { λ _. ⌜ now (x .exit) ≡ lettered way p m j (now (x .entry)) ⌝ }
 {
     let lower = m - 1;
@@ -63,13 +67,13 @@ fn by_blocks(x: &mut [u64], m: usize, j: usize, way: Way, p: Parameters)
     each_letter(&mut x[high..], lower, b, j - 1, j - 1, way, p);
 }
 
-// The letter j acts on each of the n blocks of x, of rank m, from 3 on, and b words.
+// The letter j acts on each of the n blocks of x, of rank m, from 4 on, and b words.
 fn each_letter(x: &mut [u64], m: usize, b: usize, n: usize, j: usize, way: Way, p: Parameters)
-    requires { ⌜ (3 ≤ m) × EachLetterPre m b n j (now x) ⌝ }
+    requires { ⌜ (4 ≤ m) × EachLetterPre m b n j (now x) ⌝ }
     ensures { λ _. ⌜ now (x .exit) ≡ blocks n (λ k. lettered way p m j (block b k (now (x .entry)))) ⌝ }
 {
-    if m == 3 {
-        each_of_rank_three(x, n, j, way, p);
+    if m == 4 {
+        each_of_rank_four(x, n, j, way, p);
         return;
     }
     for k in 0..n {
@@ -79,7 +83,31 @@ fn each_letter(x: &mut [u64], m: usize, b: usize, n: usize, j: usize, way: Way, 
     }
 }
 
-// The same for blocks of rank 3.
+// The same for blocks of rank 4.
+fn each_of_rank_four(x: &mut [u64], n: usize, j: usize, way: Way, p: Parameters)
+    requires { ⌜ EachLetterPre 4 120 n j (now x) ⌝ }
+    ensures { λ _. ⌜ now (x .exit) ≡ blocks n (λ k. lettered way p 4 j (block 120 k (now (x .entry)))) ⌝ }
+{
+    for k in 0..n {
+        let at = k * 120;
+        let end = at + 120;
+        letter_of_rank_four(&mut x[at..end], j, way, p);
+    }
+}
+
+// The letter j on x, of rank 4.
+fn letter_of_rank_four(x: &mut [u64], j: usize, way: Way, p: Parameters)
+    requires { ⌜ LetterPre 4 j (now x) ⌝ }
+    ensures { λ _. ⌜ now (x .exit) ≡ lettered way p 4 j (now (x .entry)) ⌝ }
+{
+    let low = (4 - j) * 24;
+    let high = low + 24 + 24;
+    each_of_rank_three(&mut x[0..low], 4 - j, j, way, p);
+    block_loops::exchange(&mut x[low..high], 24, way, p);
+    each_of_rank_three(&mut x[high..], j - 1, j - 1, way, p);
+}
+
+// The letter j acts on each of the n blocks of x, of rank 3.
 fn each_of_rank_three(x: &mut [u64], n: usize, j: usize, way: Way, p: Parameters)
     requires { ⌜ EachLetterPre 3 24 n j (now x) ⌝ }
     ensures { λ _. ⌜ now (x .exit) ≡ blocks n (λ k. lettered way p 3 j (block 24 k (now (x .entry)))) ⌝ }

@@ -9,13 +9,13 @@ use borrow.Fn.PlainCycle.{Measures, is, falls, and}
 use Rattle.lists.proofs.Parts.{fits-block, part-size}
 use Rattle.lists.proofs.Passed.{Passed, passed-none, passed-more, passed-all}
 use Rattle.letters.specs.Letters.{lettered}
-use Rattle.letters.proofs.LowRanks.{rank-three-pre, blocks-three}
+use Rattle.letters.proofs.LowRanks.{rank-four-pre, blocks-four}
 use Rattle.letters.proofs.each_letter.Reads as each-letter
 use Rattle.letters.proofs.each_letter.Kinds as each-letter-kinds
 use Rattle.letters.proofs.+by_blocks+each_letter.Lts-each_letter as lts
 use Rattle.letters.proofs.by_blocks.Reads as by-blocks
 use Rattle.letters.proofs.by_blocks.Kinds as by-blocks-kinds
-use Rattle.letters.proofs.each_of_rank_three.Reads as each-three-reads
+use Rattle.letters.proofs.each_of_rank_four.Reads as each-four-reads
 
 abbrev pub μ-each : Measures 1 each-letter-kinds.ps ℕ
 μ-each κs a = a .1 .0 + a .1 .0 + 1
@@ -35,20 +35,20 @@ module _ (t : ℕ) where
 
   abbrev claims : lts.Claims
   claims = (
-    each-three-reads.Asked,
-    each-three-reads.Learnt,
+    each-four-reads.Asked,
+    each-four-reads.Learnt,
     and 1 by-blocks-kinds.ps (falls 1 by-blocks-kinds.ps _<_ μ-blocks t) by-blocks.Pre,
     by-blocks.Post,
   )
 
-  three-requires : lts.Need-each-of-rank-three-requires claims asked each-letter.Post Inv-loop μ-loop
-  three-requires c κs = let test = c .before in rank-three-pre (test .if1 .taken) (test .before .before .pre .1 .1)
+  four-requires : lts.Need-each-of-rank-four-requires claims asked each-letter.Post Inv-loop μ-loop
+  four-requires c κs = let test = c .before in rank-four-pre (test .if1 .taken) (test .before .before .pre .1 .1)
 
   returns : lts.Need-returns claims asked each-letter.Post Inv-loop μ-loop
   returns c =
       let after = c .before .before in
       let test = after .before .before in
-      blocks-three _ _ (test .if1 .taken) (test .before .before .pre .1 .1) (after .each-of-rank-three .ensures)
+      blocks-four _ _ (test .if1 .taken) (test .before .before .pre .1 .1) (after .each-of-rank-four .ensures)
 
   -- the start, from the loop's head
   abbrev start : lts.At-loop claims asked each-letter.Post Inv-loop μ-loop → lts.Start claims asked each-letter.Post Inv-loop μ-loop
@@ -97,8 +97,8 @@ module _ (t : ℕ) where
   pub each-closed : {M : Type 1} → lts.Closed claims asked each-letter.Post M
   each-closed =
       lts.spec claims asked each-letter.Post Inv-loop μ-loop
-      three-requires
-      (λ c. c .before .before .each-of-rank-three .kept .0)
+      four-requires
+      (λ c. c .before .before .each-of-rank-four .kept .0)
       returns
       loop-holds
       (λ c. omega (arith, fits c))
