@@ -17,7 +17,7 @@ use Rattle.nested.proofs.product_fits.Tie as tie
 -- ---- the rank, and the number of words of an element
 
 module _ (c : tie.After-size) where
-  abbrev rank : c .before .before .args .m ≤ 6
+  rank : c .before .before .args .m ≤ 6
   rank = omega (arith, c .before .if1 .left)
 
   size : c .size .result ≡ factorial (suc (c .before .before .args .m))
