@@ -1,5 +1,5 @@
 -- The call of a product that passes its checks: the product by the definition, its count, and zeros in the scratch. Rests on ranks' Sizes,
--- element_calls' Verdicts and Calls, and algebra's Modular.
+-- element_calls' Verdicts and Calls, nested's Fits and algebra's Modular.
 use mathlib.Core.Path.{_≡_, sym, ap, _∙_}
 use mathlib.Core.List.{List, _++_}
 use Prim.Native.Nat.{ℕ, suc, _-_, _^_, _≤_, _<_}
@@ -23,7 +23,9 @@ use Rattle.element_calls.specs.Coefficients.{modulus, ring, parametersOf}
 use Rattle.element_calls.specs.Calls.{rankVerdict, sizeVerdict, scratchVerdict, productCall}
 use Rattle.element_calls.proofs.Verdicts.{product-accepted}
 use Rattle.element_calls.proofs.Calls.{write-done, product-counted}
-use Rattle.hecke.specs.Steps.{multiplied, TimesPre}
+use Rattle.nested.specs.Steps.{multiplied, TimesPre}
+use Rattle.nested.specs.InPlace.{productIn}
+use Rattle.nested.proofs.Fits.{product-fit}
 
 -- the checks accept, and n words of scratch are lent
 pub record Checked (m n : ℕ) (h g result scratch : List ℕ) : Type 0 where
@@ -42,7 +44,7 @@ module _ {m n : ℕ} {h g result scratch : List ℕ} (c : Checked m n h g result
   pub enough : n ≤ length scratch
   enough = omega (arith, need-is, sizes .4)
 
-  pub times-pre : TimesPre m m result (take (n - 0) scratch) h g
+  times-pre : TimesPre m m result (take (n - 0) scratch) h g
   unfolding needed
   times-pre =
       record {
@@ -71,12 +73,12 @@ module _ {m : ℕ} {h g : List ℕ} (eh : Element (λ n. n < 2 ^ 64) m h) (eg : 
   counted = product-counted p₀ eh eg
 
   pub product-done : {p : Parameters} {n k : ℕ} {result y u : List ℕ} {a : Answer} (scratch v : List ℕ) → Checked m n h g result scratch → q < 2 ^ 64
-      → p ≡ p₀ → y ≡ multiplied p m m h g → length v ≡ length (take (n - 0) scratch)
+      → p ≡ p₀ → y ≡ productIn p m (length (take (n - 0) scratch)) result h g → length v ≡ length (take (n - 0) scratch)
       → u ≡ replicate (length (take (n - 0) (v ++ drop (n - 0) scratch))) 0 → k ≡ productCount m → a ≡ accepted k
       → productCall m q h g result scratch ≡ record { answer = a; lent = record { result = y; scratch = u ++ drop (n - 0) (v ++ drop (n - 0) scratch) } }
   unfolding productCall
   product-done {n = n} {u = u} scratch v c hq ep ey lv eu ek ea =
-      let value = ey ∙ ap (λ (p : Parameters). multiplied p m m h g) ep ∙ product-value hq in
+      let value = ey ∙ product-fit _ (times-pre c) ∙ ap (λ (p : Parameters). multiplied p m m h g) ep ∙ product-value hq in
       let zeros = cleared n scratch v u (enough c) lv eu ∙ ap (λ (n : ℕ). replicate n 0 ++ drop n scratch) (need-is c) in
       let count = ek ∙ product-count-is m (sizes c .0) ∙ sym counted in
       write-done _ _ _ _ (c .verdict) (λ i. record { result = value i; scratch = zeros i }) count ea

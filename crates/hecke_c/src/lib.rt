@@ -126,7 +126,7 @@ pub extern "C" fn hecke_act_word(
     ensures { λ w. ⌜ actWord m q (now (word .entry)) (now (element .entry)) (now (answer .entry))
         ≡ record { word = w; lent = now (element .exit); answer = now (answer .exit) } ⌝ }
 {
-    let done = hecke::act_word(m, q, word, element);
+    let done = word_actions::act_word(m, q, word, element);
     returned::answered(done, answer)
 }
 
@@ -144,7 +144,7 @@ pub extern "C" fn hecke_act_signed_word(
     ensures { λ w. ⌜ actSignedWord m q (now (word .entry)) (now (element .entry)) (now (answer .entry))
         ≡ record { word = w; lent = now (element .exit); answer = now (answer .exit) } ⌝ }
 {
-    let done = hecke::act_signed_word(m, q, word, element);
+    let done = word_actions::act_signed_word(m, q, word, element);
     returned::answered(done, answer)
 }
 

@@ -105,7 +105,7 @@ fn run_scale(m: usize, c: u64, element: &[u64], result: &mut [u64]) {
 }
 
 fn run_word(m: usize, q: u64, word: &[u8], element: &mut [u64]) {
-    print_answer(hecke::act_word(m, q, word, element));
+    print_answer(word_actions::act_word(m, q, word, element));
     print_words(element);
 }
 
@@ -135,7 +135,7 @@ fn run_signed_word(m: usize, q: u64, bytes: &[u8], element: &mut [u64]) {
         return;
     }
     put_letters(&mut letters, bytes);
-    print_answer(hecke::act_signed_word(m, q, &letters[0..n], element));
+    print_answer(word_actions::act_signed_word(m, q, &letters[0..n], element));
     print_words(element);
 }
 

@@ -65,7 +65,7 @@ pub(crate) fn letter(x: &mut [u64], m: usize, size: usize, q: u64, r: usize, i: 
 {
     let at = 720 * r;
     let word = [i];
-    hecke::act_word(m, q, &word, &mut x[at..at + size]);
+    word_actions::act_word(m, q, &word, &mut x[at..at + size]);
 }
 
 pub(crate) fn inverse_letter(x: &mut [u64], m: usize, size: usize, q: u64, r: usize, i: u8)
@@ -75,7 +75,7 @@ pub(crate) fn inverse_letter(x: &mut [u64], m: usize, size: usize, q: u64, r: us
 {
     let at = 720 * r;
     let word = [-(i as i8)];
-    hecke::act_signed_word(m, q, &word, &mut x[at..at + size]);
+    word_actions::act_signed_word(m, q, &word, &mut x[at..at + size]);
 }
 
 pub(crate) fn product(x: &mut [u64], m: usize, size: usize, q: u64, d: usize, a: usize, b: usize)

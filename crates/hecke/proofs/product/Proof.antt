@@ -8,7 +8,7 @@ use Rattle.refusals.proofs.Verdicts.{both}
 use Rattle.refusals.proofs.Ended.{ended-refused}
 use Rattle.algebra.proofs.WordSlices.{slice-element}
 use Rattle.element_calls.specs.Calls.{rankVerdict, sizeVerdict, scratchVerdict, productCall}
-use Rattle.hecke.proofs.Products.{Checked, sizes, enough, times-pre, product-done}
+use Rattle.hecke.proofs.Products.{Checked, sizes, enough, product-done}
 use Rattle.hecke.proofs.product.Statement.{statement}
 use Rattle.hecke.proofs.product.Tie as tie
 
@@ -23,10 +23,10 @@ start c = factors c .before .before
 abbrev judged : tie.After-refused → tie.After-then4
 judged c = c .before .before .before .before
 
-abbrev lent : tie.After-times → tie.After-scratch-size
+abbrev lent : tie.After-product → tie.After-scratch-size
 lent c = c .before .before .before .before
 
-abbrev made : tie.After-slice-known4 → tie.After-times
+abbrev made : tie.After-slice-known4 → tie.After-product
 made c = c .before .before .before .before
 
 -- ---- the row of checks
@@ -54,11 +54,8 @@ returns : tie.Need-returns
 unfolding productCall
 returns c = ended-refused refused _ _ _ (sym (row (judged c)) ∙ c .before .before .checked .given .1) (c .refused .ensures)
 
-part-times-end : tie.Need-part-times-end
-part-times-end c = omega (arith, enough (checked (c .before)))
-
-times-requires : tie.Need-times-requires
-times-requires c κs = times-pre (checked (c .before .before .before))
+part-product-end : tie.Need-part-product-end
+part-product-end c = omega (arith, enough (checked (c .before)))
 
 part-clear-end : tie.Need-part-clear-end
 part-clear-end c = omega (arith, enough (checked (lent (made c))))
@@ -69,14 +66,14 @@ returns-2 c =
     let d = checked sized in let slices = factors (sized .before .before .before) in let s = slices .before .before in
     let h = slice-element (sizes d .1) (slices .before .shared-slice-known .given) in
     let g = slice-element (sizes d .2) (slices .shared-slice-known2 .given) in
-    product-done h g (s .args .q) (s .args .scratch .now) (y .times .last .1 .0) d (s .fits .q .fits) (y .before .parameters-of .ensures)
-    (y .times .ensures) (y .times .kept .1 .0) (clear .clear .ensures) (count .product-count .ensures) (c .accepted .ensures)
+    product-done h g (s .args .q) (s .args .scratch .now) (y .product .last .1 .0) d (s .fits .q .fits) (y .before .parameters-of .ensures)
+    (y .product .ensures) (y .product .kept .1 .0) (clear .clear .ensures) (count .product-count .ensures) (c .accepted .ensures)
 
 pub product-spec : {M : Type 1} → statement M
 product-spec =
     tie.close
     (tie.spec (λ c κs. search needs) (λ c κs. search needs) (λ c κs. search needs) (λ c κs. search needs) (λ c κs. search needs) (λ c κs. search needs)
     (λ c κs. search needs) (λ c κs. search needs) (λ c κs. search needs) (λ c. search needs) (λ c κs. search needs) returns (λ c. search needs)
-    (λ c κs. search needs) (λ c. search needs) (λ c. search needs) part-times-end (λ c κs. search needs) times-requires
+    (λ c κs. search needs) (λ c. search needs) (λ c. search needs) part-product-end (λ c κs. search needs) (λ c κs. search needs)
     (λ c. search needs) (λ c. search needs) part-clear-end (λ c κs. search needs) (λ c κs. search needs) (λ c κs. search needs)
     (λ c. search needs) (λ c. search needs) returns-2)

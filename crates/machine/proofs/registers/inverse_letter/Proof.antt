@@ -1,4 +1,4 @@
--- One call of hecke on the element, as it is lent. Rests on Put, NegatedLetter and InverseTaken.
+-- One call of word_actions on the element, as it is lent. Rests on Put, NegatedLetter and InverseTaken.
 use native.Mathlib.Omega.{arith}
 use borrow.Author.Needs.{needs}
 use Rattle.machine.proofs.Put.{inside, lent, back}

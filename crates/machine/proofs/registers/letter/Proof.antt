@@ -1,4 +1,4 @@
--- One call of hecke on the element, as it is lent. Rests on Put and Taken.
+-- One call of word_actions on the element, as it is lent. Rests on Put and Taken.
 use mathlib.Core.List.{[], _∷_}
 use native.Mathlib.Omega.{arith}
 use borrow.Author.Needs.{needs}

@@ -1,0 +1,3 @@
+pub mod Fits
+mod LowRanks
+mod LetterCut

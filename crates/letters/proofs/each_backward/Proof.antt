@@ -1,0 +1,58 @@
+-- In each step of the loop the letter acts on one block of 6 words. Rests on lists' Parts and Passed.
+use mathlib.Core.Path.{_∙_, subst}
+use Prim.Native.Nat.{_+_, _*_, _-_, _≤_}
+use native.Mathlib.Omega.{arith}
+use lib.ListN.{length}
+use Rattle.lists.proofs.Parts.{fits-block, part-size}
+use Rattle.lists.proofs.Passed.{Passed, passed-none, passed-more, passed-all}
+use Rattle.block_loops.specs.declared.Way.the-variants.{Backward}
+use Rattle.letters.specs.Letters.{lettered}
+use Rattle.letters.proofs.each_backward.Statement.{statement}
+use Rattle.letters.proofs.each_backward.Tie as tie
+
+abbrev Inv-loop : tie.InvT-loop
+Inv-loop x₀ n j p k₀ x k = (k ≤ n) × Passed 6 (λ i. lettered Backward p 2 j) x₀ x k
+
+abbrev μ-loop : tie.MeasureT-loop
+μ-loop x₀ n j p k₀ x k = n - k
+
+loop-holds : tie.Need-loop-holds Inv-loop μ-loop
+loop-holds c = (omega arith, passed-none _ _ _)
+
+abbrev start : tie.In-loop Inv-loop μ-loop → tie.Start Inv-loop μ-loop
+start c = c .before .before .before
+
+-- the loop's block is within x
+fits : (c : tie.In-loop Inv-loop μ-loop) → c .before .loop .k * 6 + 6 ≤ length (c .before .loop .x)
+fits c =
+    let at = c .before .loop in let s = start c in
+    fits-block (at .k) (s .args .n) 6 (length (at .x)) (c .loop-test .taken) (omega (arith, at .inv .1 .same, s .pre .size))
+
+letter-requires : tie.Need-backward-of-rank-two-requires Inv-loop μ-loop
+letter-requires c κs =
+    let at = c .before .before .loop in
+    let s = start (c .before) in
+    record {
+      rank = omega arith;
+      letter = s .pre .letter (omega arith);
+      size = part-size 6 (at .k) (at .x) (fits (c .before)) ∙ s .pre .block-size;
+    }
+
+loop-again : tie.Need-loop-again Inv-loop μ-loop
+loop-again c =
+    let after = c .before .before in
+    let step = after .before .before in
+    let call = after .backward-of-rank-two in
+    (omega arith, passed-more (call .last .0) (step .before .loop .inv .1) (fits step) (call .ensures) (call .kept .0))
+
+returns : tie.Need-returns Inv-loop μ-loop
+returns c =
+    let at = c .before .loop in let start = c .before .before .before in
+    passed-all (subst (Passed _ _ _ _) (omega arith) (at .inv .1)) (start .pre .size)
+
+pub each-backward-spec : {M : Type 1} → statement M
+each-backward-spec =
+    tie.close
+    (tie.spec Inv-loop μ-loop loop-holds (λ c. omega (arith, fits c)) (λ c. omega (arith, fits c)) (λ c. omega (arith, fits c))
+    (λ c. omega arith) (λ c. omega arith) fits letter-requires (λ c. omega arith) (λ c. omega arith) loop-again
+    (λ c. c .before .loop .inv .1 .same) returns)

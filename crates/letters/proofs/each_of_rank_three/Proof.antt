@@ -1,0 +1,57 @@
+-- In each step of the loop the letter acts on one block of 24 words. Rests on lists' Parts and Passed.
+use mathlib.Core.Path.{_∙_, subst}
+use Prim.Native.Nat.{_+_, _*_, _-_, _≤_}
+use native.Mathlib.Omega.{arith}
+use lib.ListN.{length}
+use Rattle.lists.proofs.Parts.{fits-block, part-size}
+use Rattle.lists.proofs.Passed.{Passed, passed-none, passed-more, passed-all}
+use Rattle.letters.specs.Letters.{lettered}
+use Rattle.letters.proofs.each_of_rank_three.Statement.{statement}
+use Rattle.letters.proofs.each_of_rank_three.Tie as tie
+
+abbrev Inv-loop : tie.InvT-loop
+Inv-loop x₀ n j way p k₀ x k = (k ≤ n) × Passed 24 (λ i. lettered way p 3 j) x₀ x k
+
+abbrev μ-loop : tie.MeasureT-loop
+μ-loop x₀ n j way p k₀ x k = n - k
+
+loop-holds : tie.Need-loop-holds Inv-loop μ-loop
+loop-holds c = (omega arith, passed-none _ _ _)
+
+abbrev start : tie.In-loop Inv-loop μ-loop → tie.Start Inv-loop μ-loop
+start c = c .before .before .before
+
+-- the loop's block is within x
+fits : (c : tie.In-loop Inv-loop μ-loop) → c .before .loop .k * 24 + 24 ≤ length (c .before .loop .x)
+fits c =
+    let at = c .before .loop in let s = start c in
+    fits-block (at .k) (s .args .n) 24 (length (at .x)) (c .loop-test .taken) (omega (arith, at .inv .1 .same, s .pre .size))
+
+letter-requires : tie.Need-letter-of-rank-three-requires Inv-loop μ-loop
+letter-requires c κs =
+    let at = c .before .before .loop in
+    let s = start (c .before) in
+    record {
+      rank = omega arith;
+      letter = s .pre .letter (omega arith);
+      size = part-size 24 (at .k) (at .x) (fits (c .before)) ∙ s .pre .block-size;
+    }
+
+loop-again : tie.Need-loop-again Inv-loop μ-loop
+loop-again c =
+    let after = c .before .before in
+    let step = after .before .before in
+    let call = after .letter-of-rank-three in
+    (omega arith, passed-more (call .last .0) (step .before .loop .inv .1) (fits step) (call .ensures) (call .kept .0))
+
+returns : tie.Need-returns Inv-loop μ-loop
+returns c =
+    let at = c .before .loop in let start = c .before .before .before in
+    passed-all (subst (Passed _ _ _ _) (omega arith) (at .inv .1)) (start .pre .size)
+
+pub each-of-rank-three-spec : {M : Type 1} → statement M
+each-of-rank-three-spec =
+    tie.close
+    (tie.spec Inv-loop μ-loop loop-holds (λ c. omega (arith, fits c)) (λ c. omega (arith, fits c)) (λ c. omega (arith, fits c))
+    (λ c. omega arith) (λ c. omega arith) fits letter-requires (λ c. omega arith) (λ c. omega arith) loop-again
+    (λ c. c .before .loop .inv .1 .same) returns)

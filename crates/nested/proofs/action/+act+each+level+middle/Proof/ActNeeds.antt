@@ -1,0 +1,77 @@
+-- What is to be shown of `act`: one letter, none, and more are three cases. Rests on Measures and Pieces, algebra's NestedLetter and letters' Fits.
+use mathlib.Core.Path.{_≡_, sym, ap, _∙_}
+use mathlib.Core.List.{List}
+use Prim.Native.Nat.{ℕ}
+use native.Mathlib.Omega.{arith}
+use borrow.Author.Needs.{needs}
+use Rattle.algebra.proofs.NestedLetter.{nested-letter}
+use Rattle.element_calls.specs.declared.Parameters.{Parameters}
+use Rattle.element_calls.specs.Coefficients.{ring}
+use Rattle.block_loops.specs.declared.Way.the-variants.{Forward}
+use Rattle.block_loops.specs.InPlace.{exchanging}
+use Rattle.letters.specs.Letters.{letterIn, LetterPre}
+use Rattle.letters.proofs.Fits.{letter-fits}
+use Rattle.nested.specs.Steps.{acted, ActPre}
+use Rattle.nested.proofs.Pieces.{acted-none}
+use Rattle.nested.proofs.action.+act+each+level+middle.Proof.Measures.{act-at, level-below}
+use Rattle.nested.proofs.action.act.Reads as act
+use Rattle.nested.proofs.action.level.Reads as level
+use Rattle.nested.proofs.action.+act+each+level+middle.Lts-act as lts
+use Rattle.letters.proofs.letter.Reads as letter-reads
+
+-- ---- one letter
+
+letter-pre : {m j l : ℕ} {x w : List ℕ} → ActPre m j l x w → l ≡ 1 → LetterPre m j x
+letter-pre c e = record { rank = c .rank; letter = record { low = omega (arith, c .within); high = c .below }; size = c .size }
+
+letter-acted : {m j l : ℕ} {x w v : List ℕ} (p : Parameters) → ActPre m j l x w → l ≡ 1 → v ≡ letterIn Forward p m j x → v ≡ acted p m j l x
+unfolding exchanging acted
+letter-acted {m} {j} {x = x} p c one e =
+    let pre = letter-pre c one in
+    e ∙ letter-fits Forward p pre ∙ sym (nested-letter ℕ (ring p) (p .q) (p .r) m j x (pre .letter) (pre .size)) ∙ ap (λ n. acted p m j n x) (sym one)
+
+-- ---- the needs
+
+module _ (t : ℕ) where
+  abbrev claims : lts.Claims
+  claims = (letter-reads.Asked, letter-reads.Learnt, level-below t, level.Post)
+
+  -- ---- places: the tests, and where the level is back
+
+  abbrev one : lts.Then1 claims (act-at t) act.Post → lts.Start claims (act-at t) act.Post
+  one c = c .before .before .before
+
+  abbrev not-one : lts.Else1 claims (act-at t) act.Post → lts.Start claims (act-at t) act.Post
+  not-one c = c .before .before .before
+
+  abbrev levelled : lts.After-slice-known5 claims (act-at t) act.Post → lts.After-level claims (act-at t) act.Post
+  levelled c = c .before .before .before .before
+
+  -- ---- what the calls require, and what is returned
+
+  returns : lts.Need-returns claims (act-at t) act.Post
+  returns c =
+      let after = c .before .before in let test = after .before .before in let start = one test in
+      letter-acted (start .args .p) (start .pre .1) (test .if1 .taken) (after .letter .ensures)
+
+  returns-2 : lts.Need-returns-2 claims (act-at t) act.Post
+  returns-2 c =
+      let u = not-one (c .before) .args in
+      sym (ap (λ n. acted (u .p) (u .m) (u .j) n (u .x .now)) (c .if2 .taken) ∙ acted-none (u .p) (u .m) (u .j) (u .x .now))
+
+  level-requires : lts.Need-level-requires claims (act-at t) act.Post
+  level-requires c κs =
+      let tests = c .before .before in
+      (omega arith, record { act = not-one (tests .before) .pre .1; more = omega (arith, tests .before .if1 .left, tests .if2 .left) })
+
+  pub act-closed : {M : Type 1} → lts.Closed claims (act-at t) act.Post M
+  act-closed =
+      lts.spec claims (act-at t) act.Post
+      (λ c κs. search needs)
+      (λ c. c .before .before .letter .kept .0)
+      returns
+      returns-2
+      level-requires
+      (λ c. levelled c .level .kept .0)
+      (λ c. levelled c .level .kept .1 .0)
+      (λ c. levelled c .level .ensures)

@@ -1,0 +1,3 @@
+mod WordAction
+mod SignedAction
+mod SignedValues
