@@ -66,9 +66,9 @@ bad-alone w v j i size e h = ap₂ (λ (x : ℕ) (u : List ℕ). same x 0 || les
     before : take i v ≡ take i w
     before = sym (take-take i j v (omega arith)) ∙ ap (take i) e ∙ take-take i j w (omega arith)
 
-pub walk : (w : List ℕ) (j : ℕ) → j ≤ length w → Walk w j
+pub walk-held : (w : List ℕ) (j : ℕ) → j ≤ length w → Walk w j
 unfolding firstBadImage held
-walk w j l = record {
+walk-held w j l = record {
   before = λ h. held-good w j (good h (less? among j)) ∙ ap Entries (tower-prefix w j l);
   after = λ h. held-bad w j (omega (arith, found h, h)) ∙ ap Bad (found h);
   prefix = sym (tower-prefix w j l);

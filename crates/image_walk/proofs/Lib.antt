@@ -5,3 +5,4 @@ pub mod Outcome
 mod Walking
 mod Turn
 mod Vetted
+mod CallEnds

@@ -7,7 +7,7 @@ use Prim.Native.Nat.{ℕ, _+_, _≤_}
 use native.Mathlib.Omega.{arith}
 use lib.ListN.{length}
 use lib.Seq.{take-all}
-use Rattle.lists.proofs.Test.{same-yes, less-yes, less-no}
+use Rattle.lists.proofs.Test.{same-yes, same-no, less-yes, less-no}
 use Rattle.refusals.specs.Refusals.{_then_}
 use Rattle.refusals.specs.declared.Refusal.the-variants.{Image}
 use Rattle.refusals.specs.declared.Verdict.the-variants.{Accepted, Refused}
@@ -35,5 +35,6 @@ module _ (w : List ℕ) (some : length w ≢ 0) (few : length w ≤ 64) where
   unfolding towerOfCall exact
   tower-call buffer = record {
     refused = λ i e. ended-refused Refused Accepted buffer (towerOf w) (ap (λ v. v then exact (length buffer + 1) (length w)) (end-bad e)) refl;
+    unfit = λ t e other. ended-refused Refused Accepted buffer (towerOf w) (rw (end-good e .0, same-no other) refl) refl;
     done = λ t e fit. let good = end-good e in ended-done Refused buffer (rw (good .0, same-yes fit) refl) refl (good .1);
   }

@@ -1,4 +1,5 @@
--- One turn of the walk's loop, by the bit b of its image, which is b + 1 modulo 2^8. Rests on Digit, Walking and perm_calls' Seen and SeenDigits.
+-- One turn of the walk's loop, by the bit b of its image, which is b + 1 modulo 2^8. Rests on Digit, Walking, perms' Tower
+-- and perm_calls' Seen and SeenDigits.
 use mathlib.Core.Path.{_≡_, sym, ap, subst, _∙_}
 use mathlib.Core.Logic.{_≢_}
 use mathlib.Core.Bool.{false}
@@ -15,7 +16,7 @@ use Rattle.perms.proofs.Tower.{entry-le}
 use Rattle.perm_calls.specs.Calls.{badImage}
 use Rattle.perm_calls.proofs.Seen.{Seen, New, seen-more, good-new}
 use Rattle.perm_calls.proofs.SeenDigits.{seen-entry, outside-bad, bad-digit}
-use Rattle.image_walk.specs.Walk.{held, holding}
+use Rattle.image_walk.specs.Walk.{Walked}
 use Rattle.image_walk.proofs.Digit.{mark-digit}
 use Rattle.image_walk.proofs.Walking.{Walking, walking-more, walking-bad}
 
@@ -29,7 +30,7 @@ pub record Turn (w entries : List ℕ) (seen i b : ℕ) : Type 0 where
 
 module _ {w entries : List ℕ} {seen i b : ℕ} (t : Turn w entries seen i b) where
   -- it is 0 or too large
-  pub turn-outside : length w ≤ b → (j : ℕ) → j ≤ length w → held w j ≡ holding j i entries
+  pub turn-outside : length w ≤ b → Walked w entries i
   turn-outside l = walking-bad (t .walking) (t .inside) (outside-bad w i (λ n. omega (arith, t .image, t .byte)))
 
   module _ (l : b < length w) where
@@ -42,7 +43,7 @@ module _ {w entries : List ℕ} {seen i b : ℕ} (t : Turn w entries seen i b) w
         ∙ bad-digit (t .walking .mask) (t .few) (λ z. omega (arith, t .image, t .few)) (omega (arith, t .image, t .few))
 
     -- it is already seen
-    pub turn-seen : seen / 2 ^ b % 2 ≡ 1 → (j : ℕ) → j ≤ length w → held w j ≡ holding j i entries
+    pub turn-seen : seen / 2 ^ b % 2 ≡ 1 → Walked w entries i
     turn-seen s = walking-bad (t .walking) (t .inside) (bit-true _ (sym digit ∙ s))
 
     -- it is good

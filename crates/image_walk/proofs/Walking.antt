@@ -1,4 +1,4 @@
--- A loop that stores the entry of each image at its index, with a mask of the images seen, holds what the walk holds; and what its answer then tells.
+-- A loop that stores the entry of each image at its index, with a mask of the images seen, holds what the walk holds, up to a bad image or to the end.
 -- Rests on Held, lists' Search, perms' Prefix and perm_calls' Seen.
 use mathlib.Core.Path.{_≡_, refl, sym, ap, _∙_}
 use mathlib.Core.Bool.{true, false}
@@ -7,13 +7,14 @@ use Prim.Native.Nat.{ℕ, _+_, _≤_, _<_}
 use native.Mathlib.Omega.{arith}
 use lib.ListN.{length, getD, set, take, drop, length-set, length-drop}
 use lib.Seq.{length-take-le, getD-take, getD-drop, getD-set-same, getD-set-other, take-set-le, ext-getD}
+use Rattle.lists.specs.Lists.{first}
 use Rattle.lists.proofs.Test.{SameView, is, isnt, LessView, lt, ge, same?, less?, less-no}
-use Rattle.lists.proofs.Search.{first-there, first-more}
+use Rattle.lists.proofs.Search.{first-none-of, first-there, first-more}
 use Rattle.perms.specs.Tower.{entry, towerOf}
 use Rattle.perms.proofs.Prefix.{getD-tower-prefix, length-tower-prefix}
-use Rattle.perm_calls.specs.Calls.{badImage}
+use Rattle.perm_calls.specs.Calls.{badImage, firstBadImage}
 use Rattle.perm_calls.proofs.Seen.{Seen, seen-none}
-use Rattle.image_walk.specs.Walk.{Entries, Bad, held, holding}
+use Rattle.image_walk.specs.Walk.{Entries, Bad, held, holding, Walked}
 use Rattle.image_walk.proofs.Held.{Good, held-good, held-bad, held-entries}
 
 -- after i images, none of them bad: the entries a_0, a_1, .. of these, so that what was held after each j of them still stands, and their mask
@@ -79,17 +80,21 @@ module _ {w entries : List ℕ} {seen i : ℕ} (g : Walking w entries seen i) wh
       go j k (isnt p q) = g .holds j (omega arith) ∙ ap (λ t. Entries (drop 1 t)) (sym (take-set-le j entries i v (omega arith)))
 
   -- a bad image
-  pub walking-bad : i < length w → badImage w i ≡ true → (j : ℕ) → j ≤ length w → held w j ≡ holding j i entries
-  unfolding holding
-  walking-bad h e j l = go (less? i j)
+  pub walking-bad : i < length w → badImage w i ≡ true → Walked w entries i
+  unfolding holding firstBadImage
+  walking-bad h e = record { index = sym (found (length w) h); holds = λ j l. go j (less? i j) }
     where
-      go : LessView i j → held w j ≡ holding j i entries
-      go (lt k f) =
-          let found = first-there (badImage w) j i k (held-entries w i (g .holds i (omega arith)) .0) e in
-          held-bad w j (omega (arith, found)) ∙ ap Bad found ∙ rw f refl
-      go (ge k f) = g .holds j k ∙ rw f refl
+      found : (j : ℕ) → i < j → first (badImage w) 0 j ≡ i
+      found j k = first-there (badImage w) j i k (held-entries w i (g .holds i (omega arith)) .0) e
+
+      go : (j : ℕ) → LessView i j → held w j ≡ holding j i entries
+      go j (lt k f) = held-bad w j (omega (arith, found j k)) ∙ ap Bad (found j k) ∙ rw f refl
+      go j (ge k f) = g .holds j k ∙ rw f refl
 
   -- all images
-  pub walking-all : length w ≤ i → (j : ℕ) → j ≤ length w → held w j ≡ holding j (length w) entries
-  unfolding holding
-  walking-all h j l = g .holds j (omega arith) ∙ rw (less-no l) refl
+  pub walking-all : length w ≤ i → Walked w entries (length w)
+  unfolding holding firstBadImage
+  walking-all h = record {
+    index = sym (first-none-of (badImage w) (length w) (held-entries w (length w) (g .holds (length w) (omega arith)) .0));
+    holds = λ j l. g .holds j (omega arith) ∙ rw (less-no l) refl;
+  }

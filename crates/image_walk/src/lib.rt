@@ -1,20 +1,20 @@
 // The tower of an image list, in one walk over the list: an image is read once, and vetted and counted together.
 
 ghost use mathlib.Core.Path.{_≡_};
-ghost use Prim.Native.Nat.{ℕ, _+_, _≤_, _<_};
+ghost use Prim.Native.Nat.{_+_, _≤_, _<_};
 ghost use lib.ListN.{length, take, drop};
 ghost use Rattle.perm_calls.specs.Calls.{towerOfCall};
-ghost use Rattle.image_walk.specs.Walk.{Vetted, held, holding};
+ghost use Rattle.image_walk.specs.Walk.{Walked, Vetted};
 use perm_calls::checks;
 use refusals::Refusal;
 use refusals::Verdict;
 use refusals::then;
 
-// The index of the first bad image, else the number of images. Up to it, an image's entry of the tower goes to its index in `entries`:
-// a_0 = 0, a_1, and so on. In the mask of the images seen, x is at bit x - 1; for 0 this is 255.
+// The index of the first bad image, else the number of images. Up to it, an image's entry of the tower goes to its index in `entries`,
+// a_0 first. In the mask of the images seen, x is at bit x - 1; for 0 this is 255.
 fn walk(images: &[u8], entries: &mut [u8]) -> usize
     requires { ⌜ (length (now images) ≤ 64) × (length (now entries) ≡ 64) ⌝ }
-    ensures { λ r. ⌜ ((j : ℕ) → j ≤ length (now (images .entry)) → held (now (images .entry)) j ≡ holding j r (now (entries .exit))) ⌝ }
+    ensures { λ r. ⌜ Walked (now (images .entry)) (now (entries .exit)) r ⌝ }
 {
     let mut seen: u64 = 0;
     for i in 0..images.len() {

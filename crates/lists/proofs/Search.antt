@@ -8,7 +8,7 @@ use Rattle.lists.proofs.Test.{SameView, is, isnt, LessView, lt, ge, sam
 use Rattle.lists.proofs.First.{passed, first-past, first-holds, first-true}
 
 -- a number that meets the test, where none before it does
-pub first-is : (p : ℕ → Bool) (n i : ℕ) → i < n → ((k : ℕ) → k < i → p k ≡ false) → p i ≡ true → first p 0 n ≡ i
+first-is : (p : ℕ → Bool) (n i : ℕ) → i < n → ((k : ℕ) → k < i → p k ≡ false) → p i ≡ true → first p 0 n ≡ i
 first-is p n i h none e = go (less? r i) (less? i r)
   where
     r : ℕ
@@ -25,6 +25,10 @@ first-is p n i h none e = go (less? r i) (less? i r)
 -- what is found among j numbers is found among any n that reach it
 pub first-found : (p : ℕ → Bool) (j n : ℕ) → first p 0 j < j → first p 0 j < n → first p 0 n ≡ first p 0 j
 first-found p j n l h = first-is p n (first p 0 j) h (λ k f. passed p 0 j k (omega arith) f) (first-true p j l)
+
+-- where nothing is found the search ends at its end
+pub first-none-of : (p : ℕ → Bool) (n : ℕ) → n ≤ first p 0 n → first p 0 n ≡ n
+first-none-of p n h = first-past p 0 n (λ i a l. passed p 0 n i a (omega arith)) ∙ omega arith
 
 -- where nothing is found among i numbers, the next one is found, or not
 pub first-there : (p : ℕ → Bool) (n i : ℕ) → i < n → i ≤ first p 0 i → p i ≡ true → first p 0 n ≡ i

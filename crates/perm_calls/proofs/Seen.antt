@@ -24,9 +24,9 @@ use Rattle.perm_calls.proofs.ImageVerdicts.{good-image}
 abbrev pub stands : List ℕ → ℕ → Bool
 stands u v = less 0 (count v u)
 
--- the first i images are different and at most 64, and `held` is their mask
-pub record Seen (w : List ℕ) (held i : ℕ) : Type 0 where
-  pub is : held ≡ mask (stands (take i w)) 64
+-- the first i images are different and at most 64, and `seen` is their mask
+pub record Seen (w : List ℕ) (seen i : ℕ) : Type 0 where
+  pub is : seen ≡ mask (stands (take i w)) 64
   pub dist : Dist (take i w)
   pub most : (v : ℕ) → 64 < v → count v (take i w) ≡ 0
 
@@ -46,8 +46,8 @@ seen-none w = record {
     none : (v : ℕ) → count v (take 0 w) ≡ 0
     none v = count-sums v .none
 
-pub seen-more : {w : List ℕ} {held i : ℕ} → i < length w → New w i → Seen w held i → Seen w (held + (1 * 2 ^ (getD w i 0 - 1)) % 2 ^ 64) (i + 1)
-seen-more {w} {held} {i} h x s = record {
+pub seen-more : {w : List ℕ} {seen i : ℕ} → i < length w → New w i → Seen w seen i → Seen w (seen + (1 * 2 ^ (getD w i 0 - 1)) % 2 ^ 64) (i + 1)
+seen-more {w} {seen} {i} h x s = record {
   is = ap₂ _+_ (s .is) power
       ∙ sym (mask-more (stands (take i w)) (stands (take (i + 1) w)) (y - 1) 64 (omega (arith, x .low, x .high)) before after others);
   dist = λ v. dist v (same? y v);
@@ -79,8 +79,8 @@ seen-more {w} {held} {i} h x s = record {
     dist v (is e f) = omega (arith, step v, ap bit f, x .fresh, ap (λ n. count n (take i w)) e)
     dist v (isnt n f) = omega (arith, step v, ap bit f, s .dist v)
 
-pub seen-fits : {w : List ℕ} {held i : ℕ} → Seen w held i → held < 2 ^ 64
-seen-fits {w} {held} {i} s = rw (s .is) (mask-lt (stands (take i w)) 64)
+pub seen-fits : {w : List ℕ} {seen i : ℕ} → Seen w seen i → seen < 2 ^ 64
+seen-fits {w} {seen} {i} s = rw (s .is) (mask-lt (stands (take i w)) 64)
 
 -- ---- which images are new
 

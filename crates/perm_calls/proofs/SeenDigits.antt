@@ -1,5 +1,5 @@
 -- What the mask of the images seen tells: the digit of a value, whether it is among them, and so whether an image is bad; and the digits from that of
--- a new image on, how many larger ones are among them, which is an entry of the tower. Rests on Seen and perms' Above and Mask.
+-- a new image on, how many larger ones are among them, which is an entry of the tower. Rests on Seen and perms' Perm, Above and Mask.
 use mathlib.Core.Path.{_≡_, sym, ap, _∙_}
 use mathlib.Core.Logic.{_≢_}
 use mathlib.Core.Bool.{Bool, true}
@@ -18,8 +18,8 @@ use Rattle.perm_calls.specs.Calls.{badImage}
 use Rattle.perm_calls.proofs.Seen.{stands, Seen, New}
 
 -- the digit of a value: whether it is among the images
-seen-digit : {w : List ℕ} {held i : ℕ} (x : ℕ) → Seen w held i → 1 ≤ x → x ≤ 64 → held / 2 ^ (x - 1) % 2 ≡ bit (less 0 (count x (take i w)))
-seen-digit {w} {held} {i} x s l h =
+seen-digit : {w : List ℕ} {seen i : ℕ} (x : ℕ) → Seen w seen i → 1 ≤ x → x ≤ 64 → seen / 2 ^ (x - 1) % 2 ≡ bit (less 0 (count x (take i w)))
+seen-digit {w} {seen} {i} x s l h =
     let e : suc (x - 1) ≡ x = omega arith in
     ap (λ n. n / 2 ^ (x - 1) % 2) (s .is) ∙ mask-digit (stands (take i w)) (x - 1) 64 (omega arith) ∙ ap (λ n. bit (stands (take i w) n)) e
 
@@ -39,9 +39,9 @@ number-above u d k (suc m) =
     rw e (omega (arith, number-above u d k m, above-step (k + m) u, bit-stands (count (suc (k + m)) u) (d (suc (k + m)))))
 
 -- the digits from that of a new image on: how many larger ones are among the images
-pub seen-entry : {w : List ℕ} {held i : ℕ} → New w i → Seen w held i → ones (held / 2 ^ (getD w i 0 - 1)) ≡ entry i w
+pub seen-entry : {w : List ℕ} {seen i : ℕ} → New w i → Seen w seen i → ones (seen / 2 ^ (getD w i 0 - 1)) ≡ entry i w
 unfolding entry
-seen-entry {w} {held} {i} x s =
+seen-entry {w} {seen} {i} x s =
     ap ones (ap (λ n. n / 2 ^ k) (s .is ∙ ap (mask p) all) ∙ mask-from p k (64 - k)) ∙ ones-mask (λ j. p (k + j)) (64 - k)
     ∙ omega (
       arith,
@@ -78,9 +78,9 @@ outside-bad w i h = go (same? (getD w i 0) 0)
     go (is p e) = simp e
     go (isnt p e) = simp (e, less-yes (h p))
 
-pub bad-digit : {w : List ℕ} {held i : ℕ} → Seen w held i → length w ≤ 64 → getD w i 0 ≢ 0 → getD w i 0 ≤ length w
-    → held / 2 ^ (getD w i 0 - 1) % 2 ≡ bit (badImage w i)
+pub bad-digit : {w : List ℕ} {seen i : ℕ} → Seen w seen i → length w ≤ 64 → getD w i 0 ≢ 0 → getD w i 0 ≤ length w
+    → seen / 2 ^ (getD w i 0 - 1) % 2 ≡ bit (badImage w i)
 unfolding badImage
-bad-digit {w} {held} {i} s l n h =
+bad-digit {w} {seen} {i} s l n h =
     let e : badImage w i ≡ less 0 (count (getD w i 0) (take i w)) = simp (same-no n, less-no h) in
     seen-digit (getD w i 0) s (omega arith) (omega arith) ∙ ap bit (sym e)

@@ -1,4 +1,4 @@
-// What the seven permutation and tower calls check and answer: answers and the checks. What a call answers and writes is defined
+// What the seven permutation and tower calls check and answer: answers, and the checks of towers and buffers. What a call answers and writes is defined
 // in specs/Calls; the work itself is in `image_walk`, `towers` and `tower_words`.
 
 use refusals::Refusal;

@@ -18,19 +18,21 @@ passes : Verdict → ℕ
 passes Accepted = 1
 passes (Refused why) = 0
 
+pub refused-accepted : {why : Refusal} → Refused why ≡ Accepted → ⊥
+unfolding passes
+refused-accepted e = omega (arith, ap passes e)
+
 pub accepts-first : (a b : Verdict) → (a then b) ≡ Accepted → a ≡ Accepted
 accepts-first Accepted b e = refl
 accepts-first (Refused why) b e = e
 
 pub accepts-next : (a b : Verdict) → (a then b) ≡ Accepted → b ≡ Accepted
-unfolding passes
 accepts-next Accepted b e = e
-accepts-next (Refused why) b e = absurd (omega (arith, ap passes e))
+accepts-next (Refused why) b e = absurd (refused-accepted e)
 
 pub accepts-unless : (b : Bool) (why : Refusal) → unless b why ≡ Accepted → b ≡ false
-unfolding passes
 accepts-unless false why e = refl
-accepts-unless true why e = absurd (omega (arith, ap passes e))
+accepts-unless true why e = absurd (refused-accepted e)
 
 pub then-accepted : (v : Verdict) → (v then Accepted) ≡ v
 then-accepted Accepted = refl

@@ -9,10 +9,9 @@ use native.Mathlib.Omega.{arith}
 use lib.ListN.{length}
 use Rattle.lists.specs.Lists.{less}
 use Rattle.lists.proofs.Test.{less-false, SameView, is, isnt, same?, LessView, lt, ge, less?, same-yes, same-no, less-yes, less-no}
-use Rattle.refusals.specs.declared.Refusal.{Refusal}
 use Rattle.refusals.specs.declared.Refusal.the-variants.{Bytes, Ending}
 use Rattle.refusals.specs.declared.Verdict.the-variants.{Accepted, Refused}
-use Rattle.refusals.proofs.Verdicts.{accepts-unless}
+use Rattle.refusals.proofs.Verdicts.{refused-accepted, accepts-unless}
 use Rattle.sheet_format.specs.Format.{decode, header}
 use Rattle.sheet_format.specs.declared.Command.{Command}
 use Rattle.sheet_format.specs.declared.Command.the-variants.{End}
@@ -23,9 +22,6 @@ use Rattle.operands.proofs.Allowed.{may-run}
 use Rattle.sheet.specs.Check.{isEnd, checkSheet}
 use Rattle.sheet.proofs.CheckFrom.{checkFrom, from-start, stands}
 use Rattle.sheet.proofs.Cases.{Kind, nothing, unknown, short, disordered, outside, lacking, end, on, kind?, order-fails, range-fails, inverse-fails, taken-on, taken-end}
-
-refused : {why : Refusal} → Refused why ≡ Accepted → ⊥
-refused e = let z : _≡_ {A = ℕ} 0 1 = cc in omega arith
 
 -- ---- from an offset on
 
@@ -40,12 +36,12 @@ pub accepted-next : (s : List ℕ) (at : ℕ) → checkFrom s at ≡ Accepted �
 accepted-next s at a = go (kind? s at)
   where
     go : Kind s at → Next s at
-    go (nothing d) = absurd (refused (sym (stands s at d) ∙ a))
-    go (unknown d) = absurd (refused (sym (stands s at d) ∙ a))
-    go (short d) = absurd (refused (sym (stands s at d) ∙ a))
-    go (disordered c after d o) = absurd (refused (sym (order-fails s at d o) ∙ a))
-    go (outside c after d o r) = absurd (refused (sym (range-fails s at d o r) ∙ a))
-    go (lacking c after d o r v) = absurd (refused (sym (inverse-fails s at d o r v) ∙ a))
+    go (nothing d) = absurd (refused-accepted (sym (stands s at d) ∙ a))
+    go (unknown d) = absurd (refused-accepted (sym (stands s at d) ∙ a))
+    go (short d) = absurd (refused-accepted (sym (stands s at d) ∙ a))
+    go (disordered c after d o) = absurd (refused-accepted (sym (order-fails s at d o) ∙ a))
+    go (outside c after d o r) = absurd (refused-accepted (sym (range-fails s at d o r) ∙ a))
+    go (lacking c after d o r v) = absurd (refused-accepted (sym (inverse-fails s at d o r v) ∙ a))
     go (end after t) =
         let past = less-false after (length s) (accepts-unless (less after (length s)) (Ending after) (sym (taken-end s at t refl) ∙ a)) in
         let w = found-within s at (t .stands) in
@@ -79,4 +75,4 @@ size? s = go (same? (length s) 0) (less? 4096 (length s))
 
 pub accepted-start : (s : List ℕ) → checkSheet s ≡ Accepted → (0 < length s) × (length s ≤ 4096) × (checkFrom s 0 ≡ Accepted)
 accepted-start s a =
-    ⊎-elim (λ h. absurd (refused (sym (missized s h) ∙ a))) (λ h. (h .0, h .1, sym (sized s (h .0) (h .1)) ∙ a)) (size? s)
+    ⊎-elim (λ h. absurd (refused-accepted (sym (missized s h) ∙ a))) (λ h. (h .0, h .1, sym (sized s (h .0) (h .1)) ∙ a)) (size? s)

@@ -1,4 +1,4 @@
-// Permutations of up to 64 points and their towers, on lent bytes: one made from the other, the inverse and the product.
+// Permutations of up to 64 points by their towers, on lent bytes: the image list of a tower, the inverse and the product.
 //
 // A permutation is the list of its images; a tower is its inversion table. A call checks all it is given before it
 // writes, and a refusal leaves every lent byte as it was.

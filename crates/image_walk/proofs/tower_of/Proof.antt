@@ -2,7 +2,7 @@
 use borrow.Author.Needs.{needs}
 use Rattle.perm_calls.specs.Calls.{towerOfCall}
 use Rattle.perm_calls.proofs.Judged.{refused}
-use Rattle.image_walk.proofs.Vetted.{fillable, written}
+use Rattle.image_walk.proofs.CallEnds.{fillable, written}
 use Rattle.image_walk.proofs.tower_of.Statement.{statement}
 use Rattle.image_walk.proofs.tower_of.Tie as tie
 
