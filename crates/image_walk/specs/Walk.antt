@@ -3,7 +3,7 @@
 --   Held            entries of a tower, or the index of a bad image
 --   held w j        for j up to the size of w: the tower of the first j images while none of them is bad, and from the first bad one on its index
 --   holding j r es  what code holds after j images, if it stops at the index r and has the entries a_0, a_1, .. in es
---   Walked w es r   r is the index of the first bad image of w, else the number of images, and for every j up to it r and es show what is held
+--   Walked w es r   r is the index of the first bad image of w, else the number of images; and r and es show what is held, for every j up to the size of w
 --   Vetted w es v   v is the verdict on w by checks 5 and 6, and if it accepts w, then es holds the tower of w after a_0
 --   Walk w j        for j up to the size of w. before, after: the entries held are a_1 to a_(j-1) of the tower of w up to its first bad image, and from
 --                   there on the index of that image is held. prefix, alone: these entries depend on the first j images alone, and what is held
