@@ -35,7 +35,7 @@ const TERMS: &str = "
 - **(c)**: formula 4.4 with h T_v kept for each beginning of a word, so that each T_v costs one letter: (7/2) M² operations,
   and m (m + 1) / 2 + 1 lists of M words beside the scratch.
 - **one pass**: (a) for image lists. Each image is vetted and counted before the next is read; its entry goes into an array, which is
-  copied to the tower when all images are good.
+  copied to the tower when all images are good and the buffer fits.
 - **two passes**: the library's former method in plain Rust, `bench/src/towers.rs`: all images are vetted, then read again and counted.
 
 All results, and the scratch after a product, are compared before the clock starts. The contenders take turns, round by round,
@@ -53,8 +53,8 @@ page gave 1.2 to 1.8 for tower to image list at 4 points, at 9 to 12 ns for (a).
 
 Image lists: a run is a million random lists, which stand one after another in memory, and its time is shown for one list. A bad
 list of n images has one bad image, at index 0, n / 2 or n - 1: it is 0, too large or, but for the first, already seen, as chance has
-it. The contenders take turns, run by run, on the same lists, for 2 seconds and at least 9 runs each. Before, each answer is held to
-what is due: the tower, or number 6 with the place and the buffer as it was. Whether the walk stops at the first bad image is judged by
+it. The contenders take turns, run by run, on the same lists, for 2 seconds and at least 9 runs each. Before the clock starts, each answer is held
+to what is due: the tower, or number 6 with the place and the buffer as it was. Whether the walk stops at the first bad image is judged by
 lists that are bad at the front, whose time must not grow with their size, and in the middle, whose time must be well below that of
 valid ones. Two passes count nothing in a bad list, and one pass has counted up to the bad image: where that comes late, two passes
 are the faster.
@@ -192,7 +192,7 @@ fn holding(rows: &[Row], lower: &str, most: f64) -> String {
     format!("Valid lists: library / {lower} is at most {most} at {}, and above at {}.\n", sizes(true), sizes(false))
 }
 
-/// The table of the runs over image lists, and at which sizes of valid ones the ratios of their aims hold.
+/// The table of the runs over image lists, and at which sizes of valid lists each of two ratios is kept.
 fn image_lists(rows: &[Row]) -> String {
     let (two, one) = (holding(rows, "two passes", 1.0), holding(rows, "one pass", 1.15));
     format!("{}\n{two}{one}", table(&IMAGE_LISTS, rows))

@@ -1,8 +1,8 @@
 // The calls for programs in C and Rust, on plain numbers and slices; a slice is a pointer and a length.
 //
-// A call is that of image_walk, towers, tower_words, linear, word_actions, hecke, pairings, sheet or runner with the same refusals. It returns 0, or the
-// refusal's number plus 256 times its place; then every lent slice is as it was. What a call counts or answers goes to the front
-// of a lent answer, as far as it has room. include/hecke.h has the declarations.
+// A call is that of image_walk, towers, tower_words, linear, word_actions, hecke, pairings, sheet or runner with the same
+// refusals. It returns 0, or the refusal's number plus 256 times its place; then every lent slice is as it was. What a call
+// counts or answers goes to the front of a lent answer, as far as it has room. include/hecke.h has the declarations.
 
 ghost use mathlib.Core.Path.{_≡_};
 ghost use Rattle.ranks.specs.Ranks.{size, scratchSize};

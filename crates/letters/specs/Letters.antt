@@ -1,6 +1,6 @@
 -- One letter in the place of an element, for the parameters p: where all fits the result, and else the element as it was.
 --
---   lettered w p m j x   x T_j, or x times the inverse of T_j, for x of rank m
+--   lettered w p m j x   x T_j, or x times the inverse of T_j, for which p has q' and q' - 1; x is of rank m
 --   letterFits m j n     whether j is a letter of rank m, at most 6, and n the number of words of an element
 --   letterIn w p m j x   what the letter j leaves in the place of x
 --   LetterPre, EachLetterPre   what the inner functions require

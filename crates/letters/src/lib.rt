@@ -9,8 +9,8 @@ ghost use Rattle.letters.specs.Letters.{lettered, letterFits, letterIn, 
 use block_loops::Way;
 use element_calls::Parameters;
 
-// x T_j, or x times the inverse of T_j, in the place of x, of rank m.
-// Example: of rank 1 with q = 3 and r = 2, T_1 makes 12 10 of 2 4; the other way 8 6.
+// x T_j, or x times the inverse of T_j, for which p has q' and q' - 1, in the place of x, of rank m.
+// Example: of rank 1 with q = 3 and r = 2, T_1 makes 12 10 of 2 4; its inverse with q' = 3 and q' - 1 = 2 makes 8 6.
 pub fn letter(x: &mut [u64], m: usize, j: usize, way: Way, p: Parameters)
     ensures { λ _. ⌜ now (x .exit) ≡ letterIn way p m j (now (x .entry)) ⌝ }
 {

@@ -6,7 +6,7 @@ use mathlib.Core.List.{List}
 use Prim.Native.Nat.{ℕ, suc, _*_, _≤_, _<_}
 use native.Mathlib.Omega.{arith}
 use lib.ListN.{length}
-use Rattle.lists.specs.Lists.{same, less, bit}
+use Rattle.lists.specs.Lists.{less, bit}
 use Rattle.lists.specs.Numbers.{factorial}
 use Rattle.lists.proofs.Test.{SameView, is, isnt, same?, LessView, lt, ge, less?, same-yes, same-no, less-yes, less-no}
 use Rattle.element_calls.specs.declared.Parameters.{Parameters}

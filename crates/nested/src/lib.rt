@@ -1,5 +1,5 @@
-// The product of elements by the nested method, in place, for the parameters p. Where the rank and the sizes do not fit, nothing is
-// written.
+// The product of elements by the nested method, into a lent result, for the parameters p. Where the rank and the sizes do not fit, the
+// result stays as it was.
 
 ghost use mathlib.Core.Path.{_≡_};
 ghost use lib.ListN.{length};

@@ -1,4 +1,4 @@
--- The vocabulary of the inner contracts: the letters of a word act one by one, with the parameters p. No public contract and no claim cites them.
+-- The vocabulary of the inner contracts: the letters of a word act one by one, with the parameters p, and p' for letters below 0. No public contract and no claim cites them.
 --
 --   signedLettered p p' m z x   the letter z on x, of rank m: with p, or below 0 with p'
 --   signedActed p p' m x h      h, of rank m, acted on by the signed letters x, left to right

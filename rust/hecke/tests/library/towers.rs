@@ -167,7 +167,7 @@ fn first_bad_image_at_every_index() {
                 for index in at + 1..points {
                     rest[index] = random.pick(&bad_images(&list[..=at], points));
                 }
-                let later = random.below(points - at) + at;
+                let later = (at + 1 + random.below(points - at)).min(points - 1);
                 two[later] = rest[later];
                 for list in [list, two, rest] {
                     for room in [points - 1, points, points.saturating_sub(2), 0, 100] {
