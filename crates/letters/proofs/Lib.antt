@@ -1,3 +1,4 @@
 pub mod Fits
 mod LowRanks
 mod LetterCut
+mod EachBlock

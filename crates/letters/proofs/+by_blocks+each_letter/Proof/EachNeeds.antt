@@ -1,15 +1,14 @@
 -- What is to be shown of `each_letter`: in each step of its loop the letter acts on one block. The measures of the cycle {by_blocks, each_letter} are twice the
--- rank, and one more for `each_letter`, whose m is the rank of a block. Rests on LowRanks and lists' Parts and Passed.
-use mathlib.Core.Path.{_≡_, _∙_, subst}
+-- rank, and one more for `each_letter`, whose m is the rank of a block. Rests on LowRanks, EachBlock and lists' Passed.
 use Prim.Native.Nat.{ℕ, _+_, _*_, _-_, _≤_, _<_}
 use native.Mathlib.Omega.{arith}
 use lib.ListN.{length}
 use borrow.Fn.Kinds.{In}
 use borrow.Fn.PlainCycle.{Measures, is, falls, and}
-use Rattle.lists.proofs.Parts.{fits-block, part-size}
-use Rattle.lists.proofs.Passed.{Passed, passed-none, passed-more, passed-all}
+use Rattle.lists.proofs.Passed.{Passed, passed-none, passed-more}
 use Rattle.letters.specs.Letters.{lettered}
 use Rattle.letters.proofs.LowRanks.{rank-four-pre, blocks-four}
+use Rattle.letters.proofs.EachBlock.{each-fits, each-pre, each-done}
 use Rattle.letters.proofs.each_letter.Reads as each-letter
 use Rattle.letters.proofs.each_letter.Kinds as each-letter-kinds
 use Rattle.letters.proofs.+by_blocks+each_letter.Lts-each_letter as lts
@@ -60,26 +59,14 @@ module _ (t : ℕ) where
   -- the loop's block is within x
   fits : (c : lts.In-loop claims asked each-letter.Post Inv-loop μ-loop)
       → let b = start (c .before) .args .b in c .before .loop .k * b + b ≤ length (c .before .loop .x)
-  fits c =
-      let at = c .before .loop in let s = start (c .before) in
-      fits-block (at .k) (s .args .n) (s .args .b) (length (at .x)) (c .loop-test .taken) (omega (arith, at .inv .1 .same, s .pre .1 .1 .size))
+  fits c = each-fits (start (c .before) .pre .1 .1) (c .before .loop .inv) (c .loop-test .taken)
 
   by-blocks-requires : lts.Need-by-blocks-requires claims asked each-letter.Post Inv-loop μ-loop
   by-blocks-requires c κs =
       let step = c .before in
-      let at = step .before .loop in
-      let s = start (step .before) in
-      let pre = s .pre .1 .1 in
-      let some : 1 ≤ s .args .n = omega arith in (
+      let s = start (step .before) in (
         omega arith,
-        (
-          omega (arith, s .pre .1 .0, step .before .before .if1 .left),
-          record {
-            rank = omega (arith, pre .rank);
-            letter = pre .letter some;
-            size = part-size _ (at .k) (at .x) (fits step) ∙ pre .block-size;
-          },
-        ),
+        (omega (arith, s .pre .1 .0, step .before .before .if1 .left), each-pre (s .pre .1 .1) (step .before .loop .inv) (step .loop-test .taken)),
       )
 
   loop-again : lts.Need-loop-again claims asked each-letter.Post Inv-loop μ-loop
@@ -89,10 +76,7 @@ module _ (t : ℕ) where
       (omega arith, passed-more (after .by-blocks .last .0) (step .before .loop .inv .1) (fits step) (after .by-blocks .ensures) (after .by-blocks .kept .0))
 
   returns-2 : lts.Need-returns-2 claims asked each-letter.Post Inv-loop μ-loop
-  returns-2 c =
-      let at = c .before .loop in let s = start (c .before) in
-      let k : at .k ≡ s .args .n = omega arith in
-      passed-all (subst (Passed _ _ _ _) k (at .inv .1)) (s .pre .1 .1 .size)
+  returns-2 c = each-done (start (c .before) .pre .1 .1) (c .before .loop .inv) (omega arith)
 
   pub each-closed : {M : Type 1} → lts.Closed claims asked each-letter.Post M
   each-closed =
