@@ -1,5 +1,5 @@
 -- The element calls, whole: for all inputs, what a call answers and what its lent slices then hold (document 01, "Elements and their product" and
--- "Where each thing is checked", and document 02, Tickets 1 and 2).
+-- "Where each thing is checked", and document 02, Tickets 1, 2 and 4).
 --
 --   rankVerdict m                 1: on the rank
 --   sizeVerdict m n               2: on an element's slice of n words
@@ -15,6 +15,7 @@
 --   write v old new n             what is lent becomes new and counts n, if nothing is refused
 --   valued v x                    the answer of a call that gives the word x, if nothing is refused; else it gives 0
 --   valuedReport a                the report of such an answer, which counts 0
+--   give v x old new              what is lent becomes new and the answer is the word x, if nothing is refused
 --   xCall                         the call x
 --
 -- A rank above 6 has the size 0: checks 2 and 3 are judged after check 1.
@@ -37,6 +38,7 @@ use Rattle.algebra.specs.Product.{act, times}
 use Rattle.algebra.specs.Nested.{operations, nested}
 use Rattle.algebra.specs.Pairing.{pairing}
 use Rattle.signed_words.specs.Words.{isBelow, signedAct}
+use Rattle.markov_trace.specs.Trace.{trace}
 use Rattle.ranks.specs.Ranks.{size, needed, scratchSize}
 use Rattle.element_calls.specs.declared.Valued.{Valued}
 use Rattle.element_calls.specs.Coefficients.{ring, parametersOf, inverseParameters}
@@ -89,6 +91,9 @@ valued (Refused why) x = record { verdict = Refused why; value = 0 }
 abbrev pub valuedReport : Valued → Report
 valuedReport a = verdictReport (a .verdict)
 
+abbrev pub give : {A : Type 0} → Verdict → ℕ → A → A → Outcome Valued A
+give v x old new = ended v (λ why. valued (Refused why) x) (valued Accepted x) old new
+
 unfoldable pub sumCall : (m : ℕ) (h g result : List ℕ) → Outcome Answer (List ℕ)
 sumCall m h g result =
     write (rankVerdict m then sizeVerdict m (length h) then sizeVerdict m (length g) then sizeVerdict m (length result))
@@ -124,3 +129,9 @@ unfoldable pub pairingCall : (m q : ℕ) (h g : List ℕ) → Valued
 pairingCall m q h g =
     let p = parametersOf q in
     valued (rankVerdict m then sizeVerdict m (length h) then sizeVerdict m (length g)) (pairing ℕ (ring p) (p .q) m h g)
+
+unfoldable pub traceCall : (m q z : ℕ) (h scratch : List ℕ) → Outcome Valued (List ℕ)
+traceCall m q z h scratch =
+    let p = parametersOf q in
+    give (rankVerdict m then sizeVerdict m (length h) then scratchVerdict m (length scratch))
+    (trace ℕ (ring p) (p .q) (p .r) z m h) scratch (replicate (needed m) 0 ++ drop (needed m) scratch)
