@@ -20,6 +20,6 @@ pub mod Lowered
 pub mod Laws
 -- along maps of operations
 pub mod TraceMaps
-pub mod CarryTrace
-pub mod ClosedTrace
+pub mod TraceCarry
+pub mod TraceClosed
 pub mod TraceModular

@@ -1,5 +1,5 @@
 -- The laws of the trace hold for the integers modulo N ≥ 1, for any q, r and z, and so for words, with r = q - 1; and embedded elements, lowered elements
--- and traces are again below 2^64. Rests on Laws, CarryTrace, ClosedTrace, and ring's and algebra's Modular.
+-- and traces are again below 2^64. Rests on Laws, TraceCarry, TraceClosed, and ring's and algebra's Modular.
 use mathlib.Core.List.{List}
 use Prim.Native.Nat.{ℕ, suc, _^_, _<_}
 use Rattle.ring.specs.Modular.{modular, words, Residue, residues}
@@ -11,8 +11,8 @@ use Rattle.algebra.proofs.Onto.{any}
 use Rattle.markov_trace.specs.Trace.{embed, trace, lowered}
 use Rattle.markov_trace.specs.Laws.{TraceLaws}
 use Rattle.markov_trace.proofs.Laws.{trace-laws}
-use Rattle.markov_trace.proofs.CarryTrace.{carry-trace}
-use Rattle.markov_trace.proofs.ClosedTrace.{embed-element, lowered-element, trace-good}
+use Rattle.markov_trace.proofs.TraceCarry.{carry-trace}
+use Rattle.markov_trace.proofs.TraceClosed.{embed-element, lowered-element, trace-good}
 
 pub modular-embed-element : (N : ℕ) → 0 < N → (m : ℕ) (h : List ℕ) → Element (λ n. n < N) m h → Element (λ n. n < N) (suc m) (embed ℕ (modular N) m h)
 modular-embed-element N pos = embed-element (number-hom N pos) (0, pos) (0, pos) (0, pos) (numbers N) (λ a. a .1)
