@@ -197,6 +197,7 @@ def cases():
         yield command(BEGIN, source.randrange(6), 2) + bytes(source.choice([*OPERANDS, 0, 1, 2]) for _ in range(source.randrange(60)))
     for q in PARAMETERS:
         yield from (paired(source, m, q) for m in range(MOST_RANK + 1))
+    for q in PARAMETERS:
         yield from (traced(source, m, q) for m in range(MOST_RANK + 1))
 
 
