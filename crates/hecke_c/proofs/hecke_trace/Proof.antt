@@ -4,10 +4,5 @@ use Rattle.hecke_c.proofs.Ends.{valued-call}
 use Rattle.hecke_c.proofs.hecke_trace.Statement.{statement}
 use Rattle.hecke_c.proofs.hecke_trace.Tie as tie
 
-returns : tie.Need-returns
-returns c =
-    let told = c .before .before in let is = told .before .before .before .before .trace .ensures in
-    valued-call _ is (told .valued .ensures)
-
 pub hecke-trace-spec : {M : Type 1} → statement M
-hecke-trace-spec = tie.close (tie.spec (λ c κs. search needs) (λ c κs. search needs) (λ c. search needs) (λ c. search needs) returns)
+hecke-trace-spec = tie.close (tie.spec (λ c κs. search needs) (λ c κs. search needs) (λ c. search needs) (λ c. search needs) (λ c. search (valued-call, needs)))
