@@ -68,7 +68,8 @@ uint64_t hecke_tower_descents(const uint8_t *tower, size_t tower_len, uint64_t *
 /* M = (m + 1)!, the words of an element of rank m, for ranks 0 to 6; 0 for a rank above. Rank 2 has 6. */
 size_t hecke_size(size_t m);
 
-/* (m + 6) M, the words of scratch that a product of rank m takes, for ranks 0 to 6; 0 for a rank above. Rank 2 takes 48. */
+/* (m + 6) M, the words of scratch that a product or a trace of rank m takes, for ranks 0 to 6; 0 for a rank above. Rank 2 takes
+ * 48. */
 size_t hecke_scratch_size(size_t m);
 
 /* The sum of two elements of rank m, coefficient by coefficient; answer[0] is the count of ring operations, M. Refused: 1 a
@@ -108,6 +109,15 @@ uint64_t hecke_product(size_t m, uint64_t q, const uint64_t *left, size_t left_l
  * q = 2, 0 0 0 1 0 0, which is T of s_1 s_2, gives 0 with itself and 4 with 0 0 0 0 1 0, which is T of s_2 s_1. */
 uint64_t hecke_pairing(size_t m, uint64_t q, const uint64_t *left, size_t left_len, const uint64_t *right, size_t right_len,
                        uint64_t *answer, size_t answer_len);
+
+/* The trace of an element h of rank m with the parameter z, in answer[0] (document 02, Ticket 4): at rank 0 the coefficient; at rank
+ * m the trace of h_0, plus z times the sum over k = 1 to m of the trace of h_k T_a, where h_0 to h_m are the blocks of h, of rank
+ * m - 1, and a is a(m - 1, k - 1). It counts no ring operation. The first hecke_scratch_size(m) words of scratch are zero
+ * afterwards, and the rest as before. Refused: 1 a rank above 6; 2 an element that is not M words; 3 scratch of fewer than
+ * hecke_scratch_size(m) words. Of rank 1, for every q, 2 3 and z = 5 give 17. Of rank 2 with q = 3 and z = 5, 0 0 0 0 0 1, which is T
+ * of s_1 s_2 s_1, gives 65. */
+uint64_t hecke_trace(size_t m, uint64_t q, uint64_t z, const uint64_t *element, size_t element_len,
+                     uint64_t *scratch, size_t scratch_len, uint64_t *answer, size_t answer_len);
 
 /* The check of a whole run sheet. Refused: 9 a sheet that is empty or over 4,096 bytes; 10 to 13 and 15 each command, lowest
  * offset first (place its offset): unknown, operands cut off, out of order, operand out of range, an inverse letter (0x34) while

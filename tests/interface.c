@@ -429,6 +429,60 @@ static void pairings_of_rank_6(void) {
     REFUSED(hecke_pairing(7, 2, LEFT(h), RIGHT(g), ANSWER), 1, 0);
 }
 
+/* The trace with the parameter z. Of rank 2 the T_w, by index, have the traces 1, z, z, z^2, z^2 and z ((q - 1) z + q). */
+static void traces(void) {
+    const uint64_t seven[] = {7}, h[] = {2, 3}, trefoil[] = {6, 7}, all[] = {1, 10, 100, 1000, 10000, 100000};
+    const uint64_t edges[] = {UINT64_MAX, (uint64_t)1 << 63}, qs[] = {0, 1, 2, 3, (uint64_t)1 << 63, UINT64_MAX};
+    for (size_t i = 0; i < sizeof qs / sizeof *qs; i++) {
+        uint64_t q = qs[i], z = qs[5 - i] + 5, due_trace[] = {1, z, z, z * z, z * z, z * ((q - 1) * z + q)};
+        GIVES(hecke_trace(0, q, z, LEFT(seven), SCRATCH(6), ANSWER), CLEARED(6), ANSWERS(7));
+        GIVES(hecke_trace(1, q, 5, LEFT(h), SCRATCH(14), ANSWER), CLEARED(14), ANSWERS(17));
+        GIVES(hecke_trace(1, q, z, LEFT(h), SCRATCH(14), ANSWER), CLEARED(14), ANSWERS(2 + 3 * z));
+        GIVES(hecke_trace(1, q, 2, LEFT(edges), SCRATCH(14), ANSWER), CLEARED(14), ANSWERS(UINT64_MAX));
+        for (size_t place = 0; place < 6; place++) {
+            uint64_t basis[6] = {0};
+            basis[place] = 1;
+            GIVES(hecke_trace(2, q, z, LEFT(basis), SCRATCH(48), ANSWER), CLEARED(48), ANSWERS(due_trace[place]));
+        }
+    }
+    /* T_1 cubed at q = 3 */
+    GIVES(hecke_trace(1, 3, 10, LEFT(trefoil), SCRATCH(14), ANSWER), CLEARED(14), ANSWERS(6 + 7 * 10));
+    GIVES(hecke_trace(2, 3, 5, LEFT(all), SCRATCH(48), ANSWER), CLEARED(48), ANSWERS(6775551));
+    GIVES(hecke_trace(2, 3, 5, LEFT(all), SCRATCH(49), ANSWER), CLEARED(48), ANSWERS(6775551));
+    GIVES(hecke_trace(2, 3, 5, LEFT(all), SCRATCH(12 * LARGEST), ANSWER), CLEARED(48), ANSWERS(6775551));
+    GIVES(hecke_trace(2, 3, 0, LEFT(all), SCRATCH(48), ANSWER), CLEARED(48), ANSWERS(1));
+    GIVES(hecke_trace(2, 1, 1, LEFT(all), SCRATCH(48), ANSWER), CLEARED(48), ANSWERS(111111));
+    REFUSED(hecke_trace(7, 3, 5, LEFT(h), SCRATCH(0), ANSWER), 1, 0);
+    REFUSED(hecke_trace(7, 3, 5, EMPTY, EMPTY, ANSWER), 1, 0);
+    REFUSED(hecke_trace(SIZE_MAX, 3, 5, LEFT(h), SCRATCH(14), ANSWER), 1, 0);
+    REFUSED(hecke_trace(2, 3, 5, LEFT(h), SCRATCH(47), ANSWER), 2, 0);
+    REFUSED(hecke_trace(2, 3, 5, LEFT_PART(all, 5), SCRATCH(48), ANSWER), 2, 0);
+    REFUSED(hecke_trace(1, 3, 5, LEFT(all), SCRATCH(48), ANSWER), 2, 0);
+    REFUSED(hecke_trace(2, 3, 5, LEFT(all), SCRATCH(47), ANSWER), 3, 0);
+    REFUSED(hecke_trace(2, 3, 5, LEFT(all), SCRATCH(6), ANSWER), 3, 0);
+    REFUSED(hecke_trace(0, 3, 5, LEFT(seven), SCRATCH(5), ANSWER), 3, 0);
+}
+
+/* At rank 6 the unit has the trace 1, and s_1 s_2 s_3 s_4 s_5 s_6, at the index 1 + 2 + 6 + 24 + 120 + 720, and its inverse, at the
+ * index 6 x 720, have z^6. At q = 1 and z = 1 the trace is the sum of all coefficients, and at z = 0 the first of them. */
+static void traces_of_rank_6(void) {
+    static uint64_t h[LARGEST];
+    size_t room = scratch_sizes_due[6];
+    h[0] = 17;
+    GIVES(hecke_trace(6, 3, 5, LEFT(h), SCRATCH(room), ANSWER), CLEARED(room), ANSWERS(17));
+    h[873] = 2;
+    GIVES(hecke_trace(6, 3, 5, LEFT(h), SCRATCH(room), ANSWER), CLEARED(room), ANSWERS(17 + 2 * 15625));
+    h[4320] = 11;
+    GIVES(hecke_trace(6, 3, 5, LEFT(h), SCRATCH(room), ANSWER), CLEARED(room), ANSWERS(17 + 13 * 15625));
+    for (size_t i = 0; i < LARGEST; i++) h[i] = i + 1;
+    GIVES(hecke_trace(6, 1, 1, LEFT(h), SCRATCH(room), ANSWER), CLEARED(room), ANSWERS(5040 * 5041 / 2));
+    GIVES(hecke_trace(6, 3, 0, LEFT(h), SCRATCH(room), ANSWER), CLEARED(room), ANSWERS(1));
+    REFUSED(hecke_trace(6, 3, 5, LEFT(h), SCRATCH(room - 1), ANSWER), 3, 0);
+    REFUSED(hecke_trace(6, 3, 5, LEFT_PART(h, LARGEST - 1), SCRATCH(room - 1), ANSWER), 2, 0);
+    REFUSED(hecke_trace(5, 3, 5, LEFT(h), SCRATCH(room), ANSWER), 2, 0);
+    REFUSED(hecke_trace(7, 3, 5, LEFT(h), SCRATCH(room), ANSWER), 1, 0);
+}
+
 /* The unit times h and h times the unit are h, at document 01's counts C(m, m). */
 static void counts(void) {
     const uint64_t due_count[] = {1, 9, 118, 2152, 55840, 2027640, 99518160};
@@ -468,7 +522,7 @@ static const uint8_t example[] = {0x10, 1, 3, 0, 0, 0, 0, 0, 0, 0, 0x20, 0, 0x30
 
 static void sheets(void) {
     const uint8_t end[] = {0}, unit[] = {0x20, 0, 0}, unknown[] = {0x11}, cut[] = {0x10, 1, 3, 0, 0, 0, 0, 0, 0};
-    const uint8_t inverse[] = {0x34, 0, 1, 0};
+    const uint8_t inverse[] = {0x34, 0, 1, 0}, trace[] = {0x43, 9, 0, 0, 0, 0, 0, 0, 0, 0, 0};
     SHEET_PASSES(WHOLE(example));
     SHEET_PASSES(SHEET(0, 0x00));
     SHEET_PASSES(SHEET(5, 0x21, 3, 0xcf, 2, 0, 0, 0, 0, 0, 0, 0, 0, 0x42, 3, 3, 0)); /* 0x2cf is 719 */
@@ -477,7 +531,7 @@ static void sheets(void) {
     REFUSED(hecke_run_sheet(EMPTY, REGISTERS(2880), ANSWER), 9, 0);
     REFUSED(hecke_run_sheet(EMPTY, EMPTY, ANSWER), 9, 0);
     SHEET_REFUSED(10, 0, WHOLE(unknown));
-    SHEET_REFUSED(10, 12, SHEET(1, 0x20, 0, 0x43));
+    SHEET_REFUSED(10, 12, SHEET(1, 0x20, 0, 0x44));
     SHEET_REFUSED(11, 0, WHOLE(cut));
     SHEET_REFUSED(11, 10, SHEET(1, 0x10, 1));
     SHEET_REFUSED(13, 10, SHEET(1, 0x20, 4, 0x31, 0, 0));
@@ -500,6 +554,10 @@ static void sheets(void) {
     SHEET_REFUSED(15, 10, SHEET(2, 0x34, 3, 2));
     SHEET_REFUSED(14, 11, SHEET(2, 0, 0x34, 0, 1));
     SHEET_REFUSED(14, 12, SHEET(2, 0x40, 3));
+    SHEET_PASSES(SHEET(0, 0x43, 3, 255, 255, 255, 255, 255, 255, 255, 255, 0));
+    SHEET_REFUSED(11, 10, SHEET(2, 0x43, 9, 1, 2, 3, 4, 5, 6, 7));
+    SHEET_REFUSED(12, 0, WHOLE(trace));
+    SHEET_REFUSED(13, 10, SHEET(2, 0x43, 4, 0, 0, 0, 0, 0, 0, 0, 0, 0));
 }
 
 /* Begin, as many commands as fit, end: 10 + 3 + 2 x 2041 + 1 = 4,096 bytes, and 10 + 2 x 2043 + 1 = 4,097. */
@@ -532,6 +590,9 @@ static void runs(void) {
     GIVES(hecke_run_sheet(LIST(both), REGISTERS(2880), ANSWER), ZEROS, REGISTER_IS(0, 1), REGISTER_IS(1, FIGURE_EIGHT),
           ANSWERS(54));
     GIVES(hecke_run_sheet(LIST_PART(SHEET(5, 0x00)), REGISTERS(2880), ANSWER), ZEROS, ANSWERS(0));
+    /* a trace between two commands, which counts nothing and leaves every register as it was */
+    GIVES(hecke_run_sheet(LIST_PART(SHEET(1, 0x20, 1, 0x43, 1, 5, 0, 0, 0, 0, 0, 0, 0, 0x30, 1, 1, 0)), REGISTERS(2880), ANSWER),
+          ZEROS, REGISTER_IS(1, 0, 1), ANSWERS(3));
     /* word 719 of register 3 is the last of all, and its bytes stand lowest first */
     GIVES(hecke_run_sheet(LIST_PART(SHEET(5, 0x21, 3, 0xcf, 2, 1, 2, 0, 0, 0, 0, 0, 0x80, 0)), REGISTERS(2880), ANSWER),
           ZEROS, due.registers[GUARDS + 2879] = 0x8000000000000201u, ANSWERS(0));
@@ -572,6 +633,9 @@ static void empty_slices(void) {
     REFUSED(hecke_pairing(0, 1, EMPTY, RIGHT(one), ANSWER), 2, 0);
     REFUSED(hecke_pairing(0, 1, LEFT(one), EMPTY, ANSWER), 2, 0);
     REFUSED(hecke_pairing(0, 1, EMPTY, EMPTY, ANSWER), 2, 0);
+    REFUSED(hecke_trace(0, 1, 1, EMPTY, SCRATCH(6), ANSWER), 2, 0);
+    REFUSED(hecke_trace(0, 1, 1, EMPTY, EMPTY, ANSWER), 2, 0);
+    REFUSED(hecke_trace(0, 1, 1, LEFT(one), EMPTY, ANSWER), 3, 0);
 }
 
 /* The calls write and refuse as before where the answer is a null pointer with length 0. */
@@ -597,6 +661,8 @@ static void empty_answers(void) {
     REFUSED(hecke_product(1, 3, LEFT(h), RIGHT(h), WORDS(2), SCRATCH(13), EMPTY), 3, 0);
     GIVES(hecke_pairing(1, 3, LEFT(h), RIGHT(h), EMPTY), NOTHING);
     REFUSED(hecke_pairing(2, 3, LEFT(h), RIGHT(h), EMPTY), 2, 0);
+    GIVES(hecke_trace(1, 3, 5, LEFT(h), SCRATCH(14), EMPTY), CLEARED(14));
+    REFUSED(hecke_trace(1, 3, 5, LEFT(h), SCRATCH(13), EMPTY), 3, 0);
     GIVES(hecke_run_sheet(LIST(example), REGISTERS(2880), EMPTY), ZEROS, REGISTER_IS(0, 3, 2));
     REFUSED(hecke_run_sheet(LIST(bad), REGISTERS(2880), EMPTY), 10, 0);
 }
@@ -627,6 +693,8 @@ static void answers_of(size_t room) {
     REFUSED(hecke_product(1, 3, LEFT(h), RIGHT(h), WORDS(2), SCRATCH(13), ANSWER_OF(room)), 3, 0);
     GIVES(hecke_pairing(1, 3, LEFT(h), RIGHT(h), ANSWER_OF(room)), ANSWERS(3));
     REFUSED(hecke_pairing(1, 3, LEFT(h), RIGHT_PART(h, 1), ANSWER_OF(room)), 2, 0);
+    GIVES(hecke_trace(1, 3, 5, LEFT(h), SCRATCH(14), ANSWER_OF(room)), CLEARED(14), ANSWERS(5));
+    REFUSED(hecke_trace(1, 3, 5, LEFT(h), SCRATCH(13), ANSWER_OF(room)), 3, 0);
     GIVES(hecke_run_sheet(LIST(example), REGISTERS(2880), ANSWER_OF(room)), ZEROS, REGISTER_IS(0, 3, 2), ANSWERS(6));
     REFUSED(hecke_run_sheet(LIST(bad), REGISTERS(2880), ANSWER_OF(room)), 12, 0);
     REFUSED(hecke_run_sheet(LIST(example), REGISTERS(2879), ANSWER_OF(room)), 8, 0);
@@ -649,6 +717,8 @@ int main(void) {
     products();
     pairings();
     pairings_of_rank_6();
+    traces();
+    traces_of_rank_6();
     counts();
     sheets();
     longest_sheets();

@@ -3,6 +3,7 @@
 use crate::clock::{agree, race, Times, INPUTS};
 use crate::pairing::{self, Pairing};
 use crate::random::Random;
+use crate::trace::{self, Trace};
 use crate::{before, image_lists, lists, nested, sheet, towers, tuned};
 use plain::sheet::{Action, Product};
 use std::iter::repeat;
@@ -16,7 +17,7 @@ pub struct Row {
     pub times: Vec<(&'static str, Times)>,
 }
 
-/// The times of two of the library's calls on the same inputs, at one rank.
+/// The times of two of the library's calls on the same inputs, or of a call and a part of it, at one rank.
 pub struct Both {
     pub m: usize,
     pub one: Times,
@@ -30,6 +31,8 @@ pub struct Measured {
     pub signs: Vec<Both>,
     /// A pairing and a product.
     pub shares: Vec<Both>,
+    /// A trace and the clearing of its scratch.
+    pub clearings: Vec<Both>,
     /// Image lists to towers, a million at a time.
     pub image_lists: Vec<Row>,
 }
@@ -182,6 +185,39 @@ fn shares(m: usize) -> Both {
     Both { m, one: times[0], other: times[1] }
 }
 
+/// The library's trace.
+const TRACE: Trace = |m, q, z, element, scratch| hecke::trace(m, q, z, element, scratch).unwrap();
+
+fn trace(timed: bool, m: usize) -> Row {
+    let inputs = &inputs(|random| (random.word(), random.word(), random.element(m)));
+    let by: [(&str, Trace); 3] = [("library", TRACE), ("(a)", trace::trace), ("(b)", lists::trace)];
+    let contenders = by.into_iter().map(|(name, trace)| {
+        let run = move |i: usize, (value, scratch): &mut (u64, Vec<u64>)| {
+            let (q, z, element) = &inputs[i];
+            *value = trace(m, *q, *z, element, scratch);
+        };
+        (name, run)
+    });
+    Row::new(timed, ("trace", format!("rank {m}")), contenders, INPUTS, (1, vec![1; hecke::scratch_size(m)]))
+}
+
+/// Times a trace and the clearing of its scratch by itself, in turn.
+fn clearings(m: usize) -> Both {
+    let inputs = &inputs(|random| (random.word(), random.word(), random.element(m)));
+    let mut contenders = [true, false].map(|traced| {
+        move |i: usize, (value, scratch): &mut (u64, Vec<u64>)| {
+            let (q, z, element) = &inputs[i];
+            if traced {
+                *value = TRACE(m, *q, *z, element, scratch);
+            } else {
+                scratch.fill(0);
+            }
+        }
+    });
+    let times = race(&mut contenders, &(1, vec![1; hecke::scratch_size(m)]));
+    Both { m, one: times[0], other: times[1] }
+}
+
 fn conversion(timed: bool, call: &'static str, points: usize, given: [Vec<u8>; INPUTS], by: [Conversion; 2]) -> Row {
     let blank = vec![255; 2 * points - 1 - given[0].len()];
     let given = &given;
@@ -228,19 +264,22 @@ pub fn rows(timed: bool) -> Vec<Row> {
     let mut rows: Vec<Row> = ranks.clone().map(|m| product(timed, m)).collect();
     rows.extend(ranks.clone().map(|m| word(timed, m)));
     rows.extend(ranks.clone().map(|m| signed_word(timed, m)));
-    rows.extend(ranks.map(|m| pairing(timed, m)));
+    rows.extend(ranks.clone().map(|m| pairing(timed, m)));
+    rows.extend(ranks.map(|m| trace(timed, m)));
     rows.extend(points.map(|n| tower_of_images(timed, n)));
     rows.extend(points.map(|n| images_of_tower(timed, n)));
     rows.extend(["square.sheet", "products.sheet"].map(|name| whole_sheet(timed, name)));
     rows
 }
 
-/// All cases timed; signed letters beside plain ones, and the pairing beside the product, at each rank; runs over image lists.
+/// All cases timed; signed letters beside plain ones, the pairing beside the product, and the trace beside the clearing of its
+/// scratch, at each rank; runs over image lists.
 pub fn measured() -> Measured {
     Measured {
         rows: rows(true),
         signs: (3..=6).map(signs).collect(),
         shares: (3..=6).map(shares).collect(),
+        clearings: (3..=6).map(clearings).collect(),
         image_lists: image_lists::rows(true),
     }
 }

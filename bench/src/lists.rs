@@ -1,4 +1,4 @@
-//! Products and words by formula 4.4 on plain lists, as fast as it goes in plain Rust, and the pairing.
+//! Products and words by formula 4.4 on plain lists, as fast as it goes in plain Rust, the pairing and the trace.
 //!
 //! What formula 4.1 asks of permutations stands in tables, made once: for each s_i the pairs of places of w and w s_i with w s_i
 //! longer, and for each place a shortest word. So do the lengths and the places of the inverses.
@@ -140,4 +140,25 @@ pub fn pairing(m: usize, q: u64, left: &[u64], right: &[u64]) -> u64 {
     left.iter().zip(&Lists::of_rank(m).inverses).fold(0, |sum: u64, (x, &(length, inverse))| {
         sum.wrapping_add(powers[length as usize].wrapping_mul(*x).wrapping_mul(right[inverse as usize]))
     })
+}
+
+/// The trace of an element of rank m, as it is defined: each h_k T_a is made in the front of x, and traced by way of the rest.
+fn traced(m: usize, q: u64, z: u64, element: &[u64], x: &mut [u64]) -> u64 {
+    let Some(lower) = m.checked_sub(1) else { return element[0] };
+    let mut blocks = element.chunks_exact(element.len() / (m + 1));
+    let first = traced(lower, q, z, blocks.next().expect("there is a block 0"), x);
+    let (turned, x) = x.split_at_mut(element.len() / (m + 1));
+    let sum = (0..m).zip(blocks).fold(0, |sum: u64, (l, block)| {
+        turned.copy_from_slice(block);
+        (m - l..m).rev().for_each(|i| Lists::of_rank(lower).letter(q, turned, i as u8));
+        sum.wrapping_add(traced(lower, q, z, turned, x))
+    });
+    first.wrapping_add(z.wrapping_mul(sum))
+}
+
+/// The trace of an element of rank m, as it is defined.
+pub fn trace(m: usize, q: u64, z: u64, element: &[u64], scratch: &mut [u64]) -> u64 {
+    let value = traced(m, q, z, element, scratch);
+    scratch.fill(0);
+    value
 }

@@ -11,6 +11,7 @@ mod pairing;
 mod random;
 mod sheet;
 mod towers;
+mod trace;
 mod tuned;
 
 use std::io::{self, Read, Write};

@@ -23,7 +23,8 @@ const TERMS: &str = "
   plain Rust with the same checks, where larger images are counted in a mask of those seen, `bench/src/towers.rs`; an image list
   is read in one pass, by the library's method. For the pairing, `bench/src/pairing.rs`: w and its inverse go down together through
   the ranks, so that the place of the inverse takes a step for each w and no table; the library's walk is another, which carries
-  weights and ends at rank 1. For sheets, the runner of `rust/plain` by this method.
+  weights and ends at rank 1. For the trace, `bench/src/trace.rs`: at each level one element of a rank less, by the library's method,
+  with the letters of `bench/src/nested.rs`. For sheets, the runner of `rust/plain` by this method.
 - **C**: the same nested method in C tuned by hand, `bench/c/nested.c`, with the library's cases of their own (letters in place;
   letters at ranks 1 to 3, and T_a(2,2) at rank 2; a right factor of rank 1), but that for letters at rank 4, and with no checks. It
   is compiled by cc and by clang with -O3 for any x86-64 processor, as the archive is; both take part, and the faster is shown. It has
@@ -31,6 +32,7 @@ const TERMS: &str = "
 - **(b)**: formula 4.4 on plain lists, `bench/src/lists.rs`: each T_v acts through its whole word, as source document 000
   counts. The places of w and ws, and the words, are in tables made before the clock starts; `rust/plain`, written to be read,
   makes words and lists anew for each v. For the pairing, its sum as document 02 writes it, with lengths and inverses in such tables.
+  For the trace, its recursion as document 02 writes it: each summand is turned and traced by itself.
   For sheets (b) is `rust/plain` as it is, its tables timed.
 - **(c)**: formula 4.4 with h T_v kept for each beginning of a word, so that each T_v costs one letter: (7/2) M² operations,
   and m (m + 1) / 2 + 1 lists of M words beside the scratch.
@@ -38,13 +40,13 @@ const TERMS: &str = "
   copied to the tower when all images are good and the buffer fits.
 - **two passes**: the library's former method in plain Rust, `bench/src/towers.rs`: all images are vetted, then read again and counted.
 
-All results, and the scratch after a product, are compared before the clock starts. The contenders take turns, round by round,
+All results, and the scratch after a product or a trace, are compared before the clock starts. The contenders take turns, round by round,
 on the same of eight random inputs; a time is the mean over a batch of calls, the least over all rounds with the median in
-brackets. Result slices hold what the call before left: nothing is cleared for a call. Every product clears the first (m + 6) M
+brackets. Result slices hold what the call before left: nothing is cleared for a call. Every product and every trace clears the first (m + 6) M
 words of its scratch at its end, as document 01 asks, and this is timed. A word's element is copied from the input first, which
 is timed too. A signed word has an odd q and letters with random signs; the inverse of q, which the library counts as free, is
 found in each call and timed. In the table of letters both ways the library's two calls take turns on the same letters, and in that
-of the pairing on the same elements. A sheet is one process: its start and both pipes are timed. Ratios are those of the least
+of the pairing on the same elements. In that of the trace the clearing is the same words set to zero by Rust's `fill`. A sheet is one process: its start and both pipes are timed. Ratios are those of the least
 times.
 
 Towers: of one point nothing is converted, and these rows are what a call costs by itself, its checks and its returned word. Up
@@ -234,6 +236,11 @@ fn shares(all: &[Both]) -> String {
     both(["pairing", "product", "pairing / product"], all)
 }
 
+/// The table of the trace beside the clearing of its scratch.
+fn clearings(all: &[Both]) -> String {
+    both(["trace", "clearing", "trace / clearing"], all)
+}
+
 /// The aims of the runs over image lists.
 fn of_image_lists(rows: &[Row]) -> Vec<(&'static str, f64, bool)> {
     let row =
@@ -272,6 +279,7 @@ fn judged(all: &Measured) -> Vec<(&'static str, f64, bool)> {
     let (three, high) = (beside_c("rank 3"), beside_c("rank 5").max(beside_c("rank 6")));
     let signed = all.signs.iter().map(Both::ratio).fold(0.0, f64::max);
     let share = all.shares.iter().find(|both| both.m == 5).unwrap().ratio();
+    let trace = largest("trace", "(a)");
     let mut aims = vec![
         ("product of rank 6: library / (a) at most 1.5", same, same <= 1.5),
         ("product of rank 6: (b) / library at least 2", lists, lists >= 2.0),
@@ -281,6 +289,7 @@ fn judged(all: &Measured) -> Vec<(&'static str, f64, bool)> {
         ("product of ranks 5 and 6: library / C at most 1.03", high, high <= 1.03),
         ("signed / plain letters at most 1.05 at ranks 3 to 6", signed, signed <= 1.05),
         ("pairing / product below 0.1 at rank 5", share, share < 0.1),
+        ("trace: library / (a) at most 1.2 at each rank", trace, trace <= 1.2),
     ];
     aims.extend(of_image_lists(&all.image_lists));
     if cfg!(before) {
@@ -318,11 +327,12 @@ fn machine() -> String {
 }
 
 /// The tables, each with its title.
-pub fn tables(all: &Measured) -> [(&'static str, String); 5] {
+pub fn tables(all: &Measured) -> [(&'static str, String); 6] {
     [
         ("Times", table(&TIMES, &all.rows)),
         ("Letters both ways", signs(&all.signs)),
         ("The pairing beside the product", shares(&all.shares)),
+        ("The trace beside the clearing of its scratch", clearings(&all.clearings)),
         ("Image lists, a million at a time", image_lists(&all.image_lists)),
         ("Aims", aims(all)),
     ]

@@ -7,8 +7,10 @@ use Rattle.refusals.specs.declared.Verdict.{Verdict}
 use Rattle.refusals.specs.declared.Answer.{Answer}
 use Rattle.perm_calls.specs.Calls.{countedReport}
 use Rattle.perm_calls.specs.declared.Counted.{Counted}
+use Rattle.element_calls.specs.declared.Valued.{Valued}
+use Rattle.element_calls.specs.Calls.{valuedReport}
 use Rattle.returned.specs.Returned.{wordOf, Returned, Answered, returns}
-use Rattle.hecke_c.specs.Calls.{verdictCall, countedCall, answerCall}
+use Rattle.hecke_c.specs.Calls.{verdictCall, countedCall, answerCall, valuedCall}
 
 answered : {A : Type 0} {x y : Returned (List ℕ)} (lent : A) → x ≡ y
     → _≡_ {A = Answered A} (record { word = x .word; lent = lent; answer = x .lent }) (record { word = y .word; lent = lent; answer = y .lent })
@@ -32,6 +34,12 @@ module _ {A : Type 0} {w : ℕ} {lent : A} where
         → answerCall o answer ≡ record { word = w; lent = lent; answer = y }
     unfolding answerCall returns
     answer-call e f = ap (λ o. answerCall o answer) e ∙ answered lent f
+
+    pub valued-call : {o : Outcome Valued A} {a : Valued} → o ≡ record { answer = a; lent = lent }
+        → returns (valuedReport a) (a .value ∷ []) answer ≡ record { word = w; lent = y }
+        → valuedCall o answer ≡ record { word = w; lent = lent; answer = y }
+    unfolding valuedCall returns
+    valued-call e f = ap (λ o. valuedCall o answer) e ∙ answered lent f
 
 -- a call that leaves nothing but its answer
 pub told-answer : {r s : Report} {xs ys : List ℕ} {x : Returned (List ℕ)} (answer : List ℕ) → r ≡ s → xs ≡ ys → returns r xs answer ≡ x → returns s ys answer ≡ x

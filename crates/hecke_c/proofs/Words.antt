@@ -10,11 +10,11 @@ use Rattle.runner.specs.Run.{runCall}
 use Rattle.runner.proofs.Runs.{runs}
 use Rattle.returned.specs.Returned.{returns}
 use Rattle.returned.proofs.Told.{verdict-tells, answer-tells, counted-tells, generators-tells}
-use Rattle.hecke_c.specs.Calls.{verdictCall, countedCall, answerCall, towerLength, towerDescents, pairing, sheetCheck}
+use Rattle.hecke_c.specs.Calls.{verdictCall, countedCall, answerCall, valuedCall, towerLength, towerDescents, pairing, sheetCheck}
 use Rattle.hecke_c.specs.Words.{Words}
 
 pub words : Words
-unfolding verdictCall countedCall answerCall towerLength towerDescents pairing sheetCheck returns
+unfolding verdictCall countedCall answerCall valuedCall towerLength towerDescents pairing sheetCheck returns
 words = record {
   tower-of-images = λ w tower. verdict-tells (P.towerOfCall w tower .answer) (perms.refusals .tower-of w tower .refuses);
   images-of-tower = λ t images. verdict-tells (P.imagesOfCall t images .answer) (perms.refusals .images-of t images .refuses);
@@ -30,6 +30,7 @@ words = record {
   product = λ m q h g result scratch answer.
       answer-tells (E.productCall m q h g result scratch .answer) (elements.refusals .product m q h g result scratch .refuses);
   pairing = λ m q h g answer. verdict-tells (E.pairingCall m q h g .verdict) (elements.refusals .pairing m q h g);
+  trace = λ m q z h scratch answer. verdict-tells (E.traceCall m q z h scratch .answer .verdict) (elements.refusals .trace m q z h scratch .refuses);
   sheet-check = λ s. verdict-tells (checkSheet s) (exactly s .report);
   run-sheet = λ s registers answer. answer-tells (runCall s registers .answer) (runs s .lent registers .refuses);
 }

@@ -2,6 +2,7 @@
 --
 --   verdictCall o                 what a call gives that answers with a verdict and ends as o
 --   countedCall o, answerCall o   the same of a call that answers a number, and of one that counts ring operations
+--   valuedCall o                  the same of a call that answers one word
 --   towerOfImages, .., runSheet   the calls hecke_tower_of_images to hecke_run_sheet, in the order of include/hecke.h
 use mathlib.Core.List.{List, [], _∷_}
 use Prim.Native.Nat.{ℕ}
@@ -11,7 +12,8 @@ use Rattle.refusals.specs.declared.Verdict.{Verdict}
 use Rattle.refusals.specs.declared.Answer.{Answer}
 use Rattle.perm_calls.specs.Calls.{towerOfCall, imagesOfCall, inverseCall, productCall, lengthCall, standardWordCall, descentsCall, countedReport, generatorsReport, generatorsMask}
 use Rattle.perm_calls.specs.declared.Counted.{Counted}
-use Rattle.element_calls.specs.Calls.{Buffers, valuedReport, sumCall, scaleCall, actWordCall, actSignedWordCall, pairingCall}
+use Rattle.element_calls.specs.declared.Valued.{Valued}
+use Rattle.element_calls.specs.Calls.{Buffers, valuedReport, sumCall, scaleCall, actWordCall, actSignedWordCall, pairingCall, traceCall}
 use Rattle.element_calls.specs.Calls as elements
 use Rattle.sheet.specs.Check.{checkSheet}
 use Rattle.runner.specs.Run.{runCall}
@@ -25,6 +27,9 @@ countedCall o answer = let r = countedReport (o .answer) in record { word = word
 
 unfoldable pub answerCall : {A : Type 0} → Outcome Answer A → List ℕ → Answered A
 answerCall o answer = let r = answerReport (o .answer) in record { word = wordOf r; lent = o .lent; answer = told r (r .count ∷ []) answer }
+
+unfoldable pub valuedCall : {A : Type 0} → Outcome Valued A → List ℕ → Answered A
+valuedCall o answer = let r = valuedReport (o .answer) in record { word = wordOf r; lent = o .lent; answer = told r (o .answer .value ∷ []) answer }
 
 -- ---- permutations and towers
 
@@ -73,6 +78,9 @@ unfoldable pub pairing : (m q : ℕ) (left right answer : List ℕ) → Returned
 pairing m q left right answer =
     let a = pairingCall m q left right in
     returns (valuedReport a) (a .value ∷ []) answer
+
+abbrev pub trace : (m q z : ℕ) (element scratch answer : List ℕ) → Answered (List ℕ)
+trace m q z element scratch answer = valuedCall (traceCall m q z element scratch) answer
 
 -- ---- sheets
 

@@ -6,7 +6,7 @@ use Prim.Native.Nat.{ℕ}
 use lib.IntN.{ℤ}
 use Rattle.refusals.specs.Refusals.{verdictReport, answerReport}
 use Rattle.perm_calls.specs.Calls.{towerOfCall, imagesOfCall, inverseCall, productCall, lengthCall, standardWordCall, descentsCall, countedReport, generatorsReport}
-use Rattle.element_calls.specs.Calls.{valuedReport, sumCall, scaleCall, actWordCall, actSignedWordCall, pairingCall}
+use Rattle.element_calls.specs.Calls.{valuedReport, sumCall, scaleCall, actWordCall, actSignedWordCall, pairingCall, traceCall}
 use Rattle.element_calls.specs.Calls as elements
 use Rattle.sheet.specs.Check.{checkSheet}
 use Rattle.runner.specs.Run.{runCall}
@@ -29,5 +29,6 @@ pub record Words : Type 0 where
   pub product : (m q : ℕ) (h g result scratch answer : List ℕ)
       → Tells (calls.product m q h g result scratch answer .word) (answerReport (elements.productCall m q h g result scratch .answer))
   pub pairing : (m q : ℕ) (h g answer : List ℕ) → Tells (calls.pairing m q h g answer .word) (valuedReport (pairingCall m q h g))
+  pub trace : (m q z : ℕ) (h scratch answer : List ℕ) → Tells (calls.trace m q z h scratch answer .word) (valuedReport (traceCall m q z h scratch .answer))
   pub sheet-check : (s : List ℕ) → Tells (calls.sheetCheck s) (verdictReport (checkSheet s))
   pub run-sheet : (s registers answer : List ℕ) → Tells (calls.runSheet s registers answer .word) (answerReport (runCall s registers .answer))

@@ -1,12 +1,12 @@
 // The calls for programs in C and Rust, on plain numbers and slices; a slice is a pointer and a length.
 //
-// A call is that of image_walk, towers, tower_words, linear, word_actions, hecke, pairings, sheet or runner with the same
+// A call is that of image_walk, towers, tower_words, linear, word_actions, hecke, pairings, traces, sheet or runner with the same
 // refusals. It returns 0, or the refusal's number plus 256 times its place; then every lent slice is as it was. What a call
 // counts or answers goes to the front of a lent answer, as far as it has room. include/hecke.h has the declarations.
 
 ghost use mathlib.Core.Path.{_≡_};
 ghost use Rattle.ranks.specs.Ranks.{size, scratchSize};
-ghost use Rattle.hecke_c.specs.Calls.{towerOfImages, imagesOfTower, towerInverse, towerProduct, towerLength, towerWord, towerDescents, sum, scale, actWord, actSignedWord, product, pairing, sheetCheck, runSheet};
+ghost use Rattle.hecke_c.specs.Calls.{towerOfImages, imagesOfTower, towerInverse, towerProduct, towerLength, towerWord, towerDescents, sum, scale, actWord, actSignedWord, product, pairing, trace, sheetCheck, runSheet};
 
 // The tower of an image list.
 // Example: the images 2 3 1 give the tower 0 2; it returns 0.
@@ -185,6 +185,25 @@ pub extern "C" fn hecke_pairing(
     returned::valued(verdict, paired.value, answer)
 }
 
+// The trace of an element of rank m with the parameter z, as the answer.
+// Example: of rank 1, for every q, for 2 3 and z = 5 it returns 0 and answers 17.
+#[no_mangle]
+pub extern "C" fn hecke_trace(
+    m: usize,
+    q: u64,
+    z: u64,
+    element: &[u64],
+    scratch: &mut [u64],
+    answer: &mut [u64],
+) -> u64
+    ensures { λ w. ⌜ trace m q z (now (element .entry)) (now (scratch .entry)) (now (answer .entry))
+        ≡ record { word = w; lent = now (scratch .exit); answer = now (answer .exit) } ⌝ }
+{
+    let traced = traces::trace(m, q, z, element, scratch);
+    let verdict = traced.verdict;
+    returned::valued(verdict, traced.value, answer)
+}
+
 // The check of a whole sheet.
 // Example: for a lone byte 0 it returns 12.
 #[no_mangle]
@@ -215,7 +234,7 @@ pub extern "C" fn hecke_size(m: usize) -> usize
     ranks::size(m)
 }
 
-// (m + 6) M, the number of words of scratch that a product of rank m needs; 0 above rank 6.
+// (m + 6) M, the number of words of scratch that a product or a trace of rank m needs; 0 above rank 6.
 // Example: a product of rank 1 needs 14.
 #[no_mangle]
 pub extern "C" fn hecke_scratch_size(m: usize) -> usize

@@ -160,6 +160,22 @@ fn run_pairing(m: usize, q: u64, left: &[u64], right: &[u64]) {
     print_field(answer.value);
 }
 
+// The first of the words, or 0 where there is none.
+fn first(words: &[u64]) -> u64 {
+    if words.len() == 0 {
+        return 0;
+    }
+    words[0]
+}
+
+fn run_trace(m: usize, q: u64, z: u64, element: &[u64], scratch: &mut [u64]) {
+    let answer = traces::trace(m, q, z, element, scratch);
+    let verdict = answer.verdict;
+    print_verdict(verdict);
+    print_field(answer.value);
+    print_field(digest(scratch));
+}
+
 fn run(
     call: u8,
     m: usize,
@@ -176,6 +192,7 @@ fn run(
         3 => run_word(m, q, word, left),
         5 => run_signed_word(m, q, word, left),
         6 => run_pairing(m, q, left, right),
+        7 => run_trace(m, q, first(right), left, scratch),
         _ => run_product(m, q, left, right, result, scratch),
     }
 }

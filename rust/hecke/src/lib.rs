@@ -126,7 +126,7 @@ pub fn size(m: usize) -> usize {
     unsafe { raw::hecke_size(m) }
 }
 
-/// (m + 6) M, the words of scratch that a product of rank m takes, for ranks 0 to 6; 0 for a rank above.
+/// (m + 6) M, the words of scratch that a product or a trace of rank m takes, for ranks 0 to 6; 0 for a rank above.
 ///
 /// ```
 /// assert_eq!(hecke::scratch_size(2), 48);
@@ -254,6 +254,27 @@ pub fn product(m: usize, q: u64, left: &[u64], right: &[u64], result: &mut [u64]
 pub fn pairing(m: usize, q: u64, left: &[u64], right: &[u64]) -> Result<u64, Refusal> {
     answered(|answer, room| unsafe {
         raw::hecke_pairing(m, q, left.as_ptr(), left.len(), right.as_ptr(), right.len(), answer, room)
+    })
+    .map(|[value]| value)
+}
+
+/// The trace of an element of rank m with the parameter z. It counts no ring operation. The scratch has `scratch_size(m)` words or
+/// more; the first `scratch_size(m)` of them are zero afterwards.
+///
+/// ```
+/// let mut scratch = vec![7; hecke::scratch_size(2)];
+/// assert_eq!(hecke::trace(1, 3, 5, &[2, 3], &mut scratch), Ok(17));
+///
+/// // rank 2 with q = 3 and z = 5: T of s_1 s_2 s_1, at index 5
+/// assert_eq!(hecke::trace(2, 3, 5, &[0, 0, 0, 0, 0, 1], &mut scratch), Ok(65));
+/// assert!(scratch.iter().all(|&word| word == 0));
+///
+/// let short = hecke::trace(2, 3, 5, &[0, 0, 0, 0, 0, 1], &mut scratch[1..]);
+/// assert_eq!(short, Err(hecke::Refusal { number: 3, place: 0 }));
+/// ```
+pub fn trace(m: usize, q: u64, z: u64, element: &[u64], scratch: &mut [u64]) -> Result<u64, Refusal> {
+    answered(|answer, room| unsafe {
+        raw::hecke_trace(m, q, z, element.as_ptr(), element.len(), scratch.as_mut_ptr(), scratch.len(), answer, room)
     })
     .map(|[value]| value)
 }

@@ -104,6 +104,18 @@ extern "C" {
         answer_len: usize,
     ) -> u64;
 
+    pub fn hecke_trace(
+        m: usize,
+        q: u64,
+        z: u64,
+        element: *const u64,
+        element_len: usize,
+        scratch: *mut u64,
+        scratch_len: usize,
+        answer: *mut u64,
+        answer_len: usize,
+    ) -> u64;
+
     pub fn hecke_sheet_check(sheet: *const u8, sheet_len: usize) -> u64;
 
     pub fn hecke_run_sheet(

@@ -1,6 +1,6 @@
 //! Elements of the Iwahori-Hecke algebra and their product by the plain-list method (document 01, "Elements and their product";
-//! formulas 3.1 and 4.1 to 4.4 of source document 000), over permutations and never over towers; inverse letters and the pairing
-//! (document 02, Tickets 1 and 2).
+//! formulas 3.1 and 4.1 to 4.4 of source document 000), over permutations and never over towers; inverse letters, the pairing
+//! and the trace (document 02, Tickets 1, 2 and 4).
 
 use crate::{count, perm, refuse, refuse_first, Refusal};
 use std::mem::swap;
@@ -143,6 +143,22 @@ impl Group {
     }
 }
 
+/// The trace of h, of rank m, with the parameter z: at rank 0 the coefficient; at rank m the trace of h_0, plus z times the sum over
+/// k = 1 to m of the trace of h_k T_a, where h_k is block k of h and a is a(m - 1, k - 1).
+pub fn markov_trace(m: usize, q: u64, z: u64, h: &[u64]) -> u64 {
+    if m == 0 {
+        return h[0];
+    }
+    let mut blocks = h.chunks_exact(size(m - 1));
+    let first = markov_trace(m - 1, q, z, blocks.next().expect("there is a block 0"));
+    let others = (1..=m).zip(blocks).map(|(k, block)| {
+        // a(m - 1, k - 1) is s_(m-1) s_(m-2) .. s_(m-k+1)
+        let word: Vec<u8> = (m - k + 1..m).rev().map(|i| i as u8).collect();
+        markov_trace(m - 1, q, z, &Group::of_rank(m - 1).act(q, block, &word))
+    });
+    first.wrapping_add(z.wrapping_mul(others.fold(0, u64::wrapping_add)))
+}
+
 /// Refuses a rank above 6, then an element that is not M words; else answers M.
 fn check_sizes(m: usize, sizes: &[usize]) -> Result<usize, Refusal> {
     refuse(m > 6, 1, 0)?;
@@ -202,6 +218,14 @@ pub fn product(m: usize, q: u64, left: &[u64], right: &[u64], result: &mut [u64]
 pub fn pairing(m: usize, q: u64, left: &[u64], right: &[u64]) -> Result<u64, Refusal> {
     check_sizes(m, &[left.len(), right.len()])?;
     Ok(Group::of_rank(m).pairing(q, left, right))
+}
+
+/// The trace of an element with the parameter z; it clears the first (m + 6) M words of the scratch.
+pub fn trace(m: usize, q: u64, z: u64, element: &[u64], scratch: &mut [u64]) -> Result<u64, Refusal> {
+    let size = check_sizes(m, &[element.len()])?;
+    refuse(scratch.len() < (m + 6) * size, 3, 0)?;
+    scratch[..(m + 6) * size].fill(0);
+    Ok(markov_trace(m, q, z, element))
 }
 
 #[cfg(test)]
@@ -290,6 +314,64 @@ mod tests {
         for (left, right) in [(5, 6), (6, 5), (6, 7), (7, 6), (0, 6), (6, 0), (5, 7), (0, 0)] {
             assert_eq!(pairing(2, 2, &vec![1; left], &vec![1; right]), refused(2));
         }
+    }
+
+    /// Of rank 1, (a, b) has the trace a + z b. Of rank 2 the T_w, by place, have 1, z, z, z^2, z^2 and z ((q - 1) z + q).
+    #[test]
+    fn traces() {
+        let scratch = &mut [7; 48];
+        assert_eq!(trace(0, 3, 5, &[9], scratch), Ok(9));
+        assert_eq!(trace(1, 3, 5, &[2, 3], scratch), Ok(17));
+        for (q, z) in [(3, 5), (0, 2), (1, u64::MAX), (u64::MAX, 7), (10, 0)] {
+            let last = z.wrapping_mul(q.wrapping_sub(1).wrapping_mul(z).wrapping_add(q));
+            let square = z.wrapping_mul(z);
+            for (place, due) in [1, z, z, square, square, last].into_iter().enumerate() {
+                let basis: Vec<u64> = (0..6).map(|index| (index == place) as u64).collect();
+                assert_eq!(trace(2, q, z, &basis, scratch), Ok(due));
+            }
+        }
+        assert_eq!(trace(2, 3, 5, &[1, 10, 100, 1000, 10_000, 100_000], scratch), Ok(6_775_551));
+    }
+
+    /// With z = 0 the trace is the coefficient of the unit, and with q = 1 and z = 1 the sum of all coefficients.
+    #[test]
+    fn traces_at_edges() {
+        for m in 0..=6 {
+            let words: Vec<u64> = (1..=size(m) as u64).map(|i| i.wrapping_mul(0x9e37_79b9_7f4a_7c15)).collect();
+            assert_eq!(markov_trace(m, 3, 0, &words), words[0]);
+            assert_eq!(markov_trace(m, 1, 1, &words), words.iter().fold(0, |sum, x| x.wrapping_add(sum)));
+        }
+    }
+
+    /// tr(x T_m y) is z tr(x y), for x and y of rank m - 1.
+    #[test]
+    fn markov_property() {
+        let words = |size, seed: u64| (1..).map(move |i: u64| i.wrapping_mul(seed).rotate_left(i as u32)).take(size);
+        let up = |m, x: &[u64]| [x, &vec![0; size(m) - x.len()]].concat();
+        for (m, (q, z)) in (1..=4).flat_map(|m| [(3, 5), (0, 3), (1, 2), (10, u64::MAX), (1 << 63, 9)].map(|p| (m, p))) {
+            let (x, y) = (words(size(m - 1), 0x9e37_79b9_7f4a_7c15), words(size(m - 1), 0x5851_f42d_4c95_7f2d));
+            let (x, y): (Vec<u64>, Vec<u64>) = (x.collect(), y.collect());
+            let group = Group::of_rank(m);
+            let between = group.times(q, &group.act(q, &up(m, &x), &[m as u8]), &up(m, &y));
+            let product = Group::of_rank(m - 1).times(q, &x, &y);
+            assert_eq!(markov_trace(m, q, z, &between), z.wrapping_mul(markov_trace(m - 1, q, z, &product)));
+            assert_eq!(markov_trace(m, q, z, &up(m, &x)), markov_trace(m - 1, q, z, &x));
+        }
+    }
+
+    /// 1 before 2 before 3; the scratch is cleared, or left as it was.
+    #[test]
+    fn refused_traces() {
+        let refused = |number| Err(Refusal { number, place: 0 });
+        let scratch = &mut [7; 50];
+        assert_eq!(trace(7, 2, 3, &[1; 6], &mut []), refused(1));
+        assert_eq!(trace(usize::MAX, 2, 3, &[], scratch), refused(1));
+        assert_eq!(trace(2, 2, 3, &[1; 5], &mut scratch[..47]), refused(2));
+        assert_eq!(trace(2, 2, 3, &[1; 7], scratch), refused(2));
+        assert_eq!(trace(2, 2, 3, &[1; 6], &mut scratch[..47]), refused(3));
+        assert_eq!(*scratch, [7; 50]);
+        assert!(trace(2, 2, 3, &[1; 6], scratch).is_ok());
+        assert!(scratch[..48] == [0; 48] && scratch[48..] == [7; 2]);
     }
 
     /// Each word of the group's own gives the permutation that it is for, and is as long.

@@ -1,4 +1,4 @@
-//! Document 01 and the first three requests of document 02 in plain Rust: an implementation that shares no code with the library,
+//! Document 01 and the first four requests of document 02 in plain Rust: an implementation that shares no code with the library,
 //! to compare the library with.
 //!
 //! The functions named here have the library's signatures. Each judges what it is given in the order of document 01's table and
@@ -9,7 +9,7 @@ pub mod element;
 pub mod perm;
 pub mod sheet;
 
-pub use element::{act_signed_word, act_word, pairing, product, scale, sum};
+pub use element::{act_signed_word, act_word, pairing, product, scale, sum, trace};
 pub use perm::{images_of_tower, tower_descents, tower_inverse, tower_length, tower_of_images, tower_product, tower_word};
 pub use sheet::{check as sheet_check, run as run_sheet};
 

@@ -1,7 +1,7 @@
-//! Run sheets: the check of a whole sheet, its run, and what the program prints (document 01, "Run sheets"; document 02, Tickets 1
-//! and 2).
+//! Run sheets: the check of a whole sheet, its run, and what the program prints (document 01, "Run sheets"; document 02, Tickets 1,
+//! 2 and 4).
 
-use crate::element::{inverse, size, undone, Group};
+use crate::element::{inverse, markov_trace, size, undone, Group};
 use crate::{count, refuse, Refusal};
 use std::fmt::Write;
 
@@ -19,6 +19,7 @@ enum Command {
     Show { r: usize },
     Pairing { a: usize, b: usize },
     Equal { a: usize, b: usize },
+    Trace { r: usize, z: u64 },
     End,
 }
 
@@ -31,7 +32,7 @@ fn widths(code: u8) -> Option<&'static [usize]> {
         0x21 => Some(&[1, 2, 8]),
         0x30 | 0x34 | 0x41 | 0x42 => Some(&[1, 1]),
         0x31 | 0x32 => Some(&[1, 1, 1]),
-        0x33 => Some(&[1, 8]),
+        0x33 | 0x43 => Some(&[1, 8]),
         _ => None,
     }
 }
@@ -63,6 +64,7 @@ fn command(code: u8, x: &[u64]) -> Command {
         0x40 => Command::Show { r: at(0) },
         0x41 => Command::Pairing { a: at(0), b: at(1) },
         0x42 => Command::Equal { a: at(0), b: at(1) },
+        0x43 => Command::Trace { r: at(0), z: x[1] },
         _ => Command::End,
     }
 }
@@ -73,7 +75,7 @@ impl Command {
         let registers = |list: &[usize]| list.iter().all(|&r| r < 4);
         match self {
             Command::Begin { m, .. } => m <= 5,
-            Command::Unit { r } | Command::Scale { r, .. } | Command::Show { r } => registers(&[r]),
+            Command::Unit { r } | Command::Scale { r, .. } | Command::Show { r } | Command::Trace { r, .. } => registers(&[r]),
             Command::Coefficient { r, i, .. } => registers(&[r]) && i < size(m),
             Command::Generator { r, i } | Command::Inverse { r, i } => registers(&[r]) && i >= 1 && i as usize <= m,
             Command::Product { d, a, b } | Command::Sum { d, a, b } => registers(&[d, a, b]),
@@ -181,6 +183,7 @@ impl Run {
             Command::Show { r } => self.show(r),
             Command::Pairing { a, b } => self.text += &format!("P {}\n", self.pairing(a, b)),
             Command::Equal { a, b } => self.text += &format!("Q {}\n", (self.registers[a] == self.registers[b]) as u8),
+            Command::Trace { r, z } => self.text += &format!("T {}\n", markov_trace(self.m, self.q, z, &self.registers[r])),
             Command::End => self.text += &format!("N {}\n", self.count),
             Command::Begin { .. } => {}
         }
@@ -282,6 +285,19 @@ mod tests {
         let chains = [0x20, 0, 0x30, 0, 1, 0x30, 0, 2, 0x20, 1, 0x30, 1, 2, 0x30, 1, 1];
         let sheet = [&begin[..], &chains, &[0x41, 0, 0, 0x41, 0, 1, 0]].concat();
         assert_eq!(printed(&sheet), b"H 2 2\nP 0\nP 4\nN 36\n");
+    }
+
+    /// The trefoil at q = 3, T_1 cubed, is 6 + 7 T_1: its trace is 6 + 7 z, and adds nothing to the count.
+    #[test]
+    fn traces() {
+        let begin = [0x10, 1, 3, 0, 0, 0, 0, 0, 0, 0, 0x20, 0, 0x30, 0, 1, 0x30, 0, 1, 0x30, 0, 1];
+        let trace = |r: u8, z: u64| [&[0x43, r][..], &z.to_le_bytes()].concat();
+        let sheet = [&begin[..], &trace(0, 5), &trace(0, u64::MAX), &trace(3, 5), &[0]].concat();
+        assert_eq!(printed(&sheet), b"H 1 3\nT 41\nT 18446744073709551615\nT 0\nN 9\n");
+        let other = [&begin[..], &trace(4, 5), &[0]].concat();
+        assert_eq!(printed(&other), b"E 13 21\n");
+        assert_eq!(printed(&other[..30]), b"E 11 21\n");
+        assert_eq!(printed(&trace(0, 5)), b"E 12 0\n");
     }
 
     #[test]

@@ -218,3 +218,21 @@ pub fn pairing(m: usize, q: u64, left: &[u64], right: &[u64]) -> Answer {
     }
     answer
 }
+
+/// The trace of an element with the rank, q and z, and a scratch of so many random words.
+pub fn trace(random: &mut Random, (m, q, z): (usize, u64, u64), element: &[u64], scratch: usize) -> Answer {
+    let work = random.words(scratch);
+    let (mut due, mut safe) = (work.clone(), work.clone());
+    let answer = answer!(plain::trace(m, q, z, element, &mut due), value => [value]);
+    assert_eq!(answer!(hecke::trace(m, q, z, element, &mut safe), value => [value]), answer);
+    assert!(safe == due);
+    for room in ROOMS {
+        let (mut h, mut lent_work) = (Lent::new(element), Lent::new(&work));
+        judge(&answer, room, |words, room| unsafe {
+            raw::hecke_trace(m, q, z, h.ptr(), h.len(), lent_work.ptr(), lent_work.len(), words, room)
+        });
+        h.assert_holds(element);
+        lent_work.assert_holds(&due);
+    }
+    answer
+}

@@ -12,3 +12,4 @@ mod runs;
 mod sheets;
 mod signed_words;
 mod towers;
+mod traces;

@@ -5,7 +5,7 @@ use crate::random::Random;
 use hecke::size;
 
 /// The codes, and the widths of their operands.
-const COMMANDS: [(u8, usize); 12] = [
+const COMMANDS: [(u8, usize); 13] = [
     (0x00, 0),
     (0x10, 9),
     (0x20, 1),
@@ -18,6 +18,7 @@ const COMMANDS: [(u8, usize); 12] = [
     (0x40, 1),
     (0x41, 2),
     (0x42, 2),
+    (0x43, 9),
 ];
 
 fn begin(random: &mut Random, m: usize) -> Vec<u8> {
@@ -34,7 +35,7 @@ fn command(random: &mut Random, m: usize, inverses: bool) -> Vec<u8> {
         0x30 if m == 0 => return command(random, m, inverses),
         0x34 if m == 0 || !inverses => return command(random, m, inverses),
         0x30 | 0x34 => vec![registers[0], random.below(m) as u8 + 1],
-        0x33 => [&registers[..1], &random.bytes(8)].concat(),
+        0x33 | 0x43 => [&registers[..1], &random.bytes(8)].concat(),
         _ => registers[..width].to_vec(),
     };
     [&[code], &operands[..]].concat()
@@ -152,7 +153,7 @@ pub fn faulty(random: &mut Random) -> Vec<u8> {
     let mut sheet = if random.below(9) == 0 { vec![] } else { begin(random, m) };
     for _ in 0..random.below(6) {
         sheet.extend(match random.below(16) {
-            0 => vec![random.pick(&[0x01, 0x11, 0x22, 0x35, 0x43, 0xff])],
+            0 => vec![random.pick(&[0x01, 0x11, 0x22, 0x35, 0x44, 0xff])],
             1 => begin(random, m),
             2 => vec![random.pick(&[0x20, 0x40]), 4],
             3 => vec![0],
