@@ -30,7 +30,7 @@ module _ (A : Type 0) (o : Ops A) (q r : A) (m : ℕ) where
 
   -- ---- by values at permutations
 
-  comb-cong : {n : ℕ} {a b : List ℕ → A} {G H : List ℕ → List ℕ → A} → Eq m a b → ((v : List ℕ) → Perm m v → Eq n (G v) (H v))
+  pub comb-cong : {n : ℕ} {a b : List ℕ → A} {G H : List ℕ → List ℕ → A} → Eq m a b → ((v : List ℕ) → Perm m v → Eq n (G v) (H v))
       → Eq n (comb A o (perms m) a G) (comb A o (perms m) b H)
   unfolding comb
   comb-cong e f w p = sum-all A o (Perm m) (perms m) _ _ (perms-perm m) (λ v c. ap₂ (o .mul) (e v c) (f v c w p))

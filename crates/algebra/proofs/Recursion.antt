@@ -52,7 +52,7 @@ module _ (A : Type 0) (o : Ops A) (𝓡 : Ring A o) where
       ∙ ap₂ (λ x k. o .add x (sum A o (g k) f)) (sum-blocks n g f) (sym (zero-add n))
       ∙ sym (sum-snoc A o 𝓡 0 n (λ k. sum A o (g k) f))
 
-  sum-perms-blocks : (m : ℕ) (f : List ℕ → A) → sum A o (perms (suc m)) f ≡ sum A o (range 0 (m + 2)) (λ k. sum A o (perms m) (λ u. f (join m k u)))
+  pub sum-perms-blocks : (m : ℕ) (f : List ℕ → A) → sum A o (perms (suc m)) f ≡ sum A o (range 0 (m + 2)) (λ k. sum A o (perms m) (λ u. f (join m k u)))
   unfolding perms
   sum-perms-blocks m f =
       sum-blocks (m + 2) (λ k. map (join m k) (perms m)) f

@@ -1,4 +1,5 @@
 pub mod Fits
+pub mod WordAction
 mod LowRanks
 mod LetterCut
 mod EachBlock

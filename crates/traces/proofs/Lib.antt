@@ -1,1 +1,2 @@
-
+pub mod FirstBlock
+pub mod Gathering

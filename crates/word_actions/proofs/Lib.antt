@@ -1,3 +1,2 @@
-mod WordAction
 mod SignedAction
 mod SignedValues

@@ -1,4 +1,4 @@
--- In each step of the loop one letter acts on x. Rests on WordAction, letters' Fits and lists' All.
+-- In each step of the loop one letter acts on x. Rests on letters' WordAction and Fits, and lists' All.
 use mathlib.Core.Path.{sym, _∙_}
 use Prim.Native.Nat.{_-_, _≤_}
 use native.Mathlib.Omega.{arith}
@@ -8,7 +8,7 @@ use Rattle.lists.proofs.All.{all-getD}
 use Rattle.perms.specs.Permutation.{Letter}
 use Rattle.letters.specs.Letters.{LetterPre}
 use Rattle.letters.proofs.Fits.{letter-fits}
-use Rattle.word_actions.proofs.WordAction.{Acting, acting-none, acting-more, acting-all}
+use Rattle.letters.proofs.WordAction.{Acting, acting-none, acting-more, acting-all}
 use Rattle.word_actions.proofs.act_letters.Statement.{statement}
 use Rattle.word_actions.proofs.act_letters.Tie as tie
 
