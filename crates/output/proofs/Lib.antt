@@ -8,5 +8,6 @@ mod Listing
 mod EqualWords
 -- the calls
 mod Lent
+mod TraceGiven
 pub mod Front
 pub mod TextLengths
