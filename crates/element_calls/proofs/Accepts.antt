@@ -1,4 +1,4 @@
--- A call that is taken was given a rank, sizes and a word as document 01 and document 02, Tickets 1 and 2, want them: the record `Accepts`. Rests on Verdicts,
+-- A call that is taken was given a rank, sizes and a word as document 01 and document 02, Tickets 1, 2 and 4, want them: the record `Accepts`. Rests on Verdicts,
 -- SignedVerdicts and Answers.
 use mathlib.Core.Path.{sym, _∙_}
 use lib.ListN.{length}
@@ -7,9 +7,9 @@ use Rattle.refusals.proofs.Verdicts.{accepts-first, accepts-next}
 use Rattle.ranks.specs.Ranks.{needed}
 use Rattle.element_calls.specs.Calls.{rankVerdict, sizeVerdict, wordVerdict}
 use Rattle.element_calls.specs.Claims.{Accepts}
-use Rattle.element_calls.proofs.Verdicts.{one-accepted, two-accepted, three-accepted, product-accepted, word-accepted}
+use Rattle.element_calls.proofs.Verdicts.{one-accepted, two-accepted, three-accepted, trace-accepted, product-accepted, word-accepted}
 use Rattle.element_calls.proofs.SignedVerdicts.{signed-accepted}
-use Rattle.element_calls.proofs.Answers.{sum-verdict, scale-verdict, act-verdict, signed-verdict, product-verdict, pairing-verdict}
+use Rattle.element_calls.proofs.Answers.{sum-verdict, scale-verdict, act-verdict, signed-verdict, product-verdict, pairing-verdict, trace-verdict}
 
 pub accepts : Accepts
 unfolding needed
@@ -26,4 +26,5 @@ accepts = record {
   product = λ m q h g result scratch t.
       product-accepted m (length h) (length g) (length result) (length scratch) (sym (product-verdict m q h g result scratch) ∙ t);
   pairing = λ m q h g t. two-accepted m (length h) (length g) (sym (pairing-verdict m q h g) ∙ t);
+  trace = λ m q z h scratch t. trace-accepted m (length h) (length scratch) (sym (trace-verdict m q z h scratch) ∙ t);
 }

@@ -13,12 +13,13 @@ use Rattle.algebra.specs.Product.{act, times}
 use Rattle.algebra.specs.Nested.{operations, nested}
 use Rattle.algebra.specs.Pairing.{pairing}
 use Rattle.signed_words.specs.Words.{signedAct}
+use Rattle.markov_trace.specs.Trace.{trace}
 use Rattle.ranks.specs.Ranks.{needed}
 use Rattle.element_calls.specs.declared.Parameters.{Parameters}
 use Rattle.element_calls.specs.Coefficients.{ring, parametersOf, inverseParameters}
-use Rattle.element_calls.specs.Calls.{rankVerdict, sizeVerdict, scratchVerdict, wordVerdict, signedVerdict, sumCall, scaleCall, actWordCall, actSignedWordCall, productCall, pairingCall}
+use Rattle.element_calls.specs.Calls.{rankVerdict, sizeVerdict, scratchVerdict, wordVerdict, signedVerdict, sumCall, scaleCall, actWordCall, actSignedWordCall, productCall, pairingCall, traceCall}
 use Rattle.element_calls.specs.Claims.{Taken, Given}
-use Rattle.element_calls.proofs.Calls.{write-verdict, write-lent, write-count, valued-verdict, valued-value}
+use Rattle.element_calls.proofs.Calls.{write-verdict, write-lent, write-count, valued-verdict, valued-value, give-verdict, give-value, give-lent}
 
 module _ (m : ℕ) (h g result : List ℕ) where
   abbrev sumChecks : Verdict
@@ -122,3 +123,21 @@ module _ (m q : ℕ) (h g : List ℕ) where
   pub pairing-value : Given (pairingCall m q h g) → let p = parametersOf q in pairingCall m q h g .value ≡ pairing ℕ (ring p) (p .q) m h g
   unfolding pairingCall
   pairing-value t = valued-value pairingChecks _ t
+
+module _ (m q z : ℕ) (h scratch : List ℕ) where
+  abbrev pub traceChecks : Verdict
+  traceChecks = rankVerdict m then sizeVerdict m (length h) then scratchVerdict m (length scratch)
+
+  pub trace-verdict : traceCall m q z h scratch .answer .verdict ≡ traceChecks
+  unfolding traceCall
+  trace-verdict = give-verdict traceChecks _ _ _
+
+  pub trace-value : Given (traceCall m q z h scratch .answer)
+      → let p = parametersOf q in traceCall m q z h scratch .answer .value ≡ trace ℕ (ring p) (p .q) (p .r) z m h
+  unfolding traceCall
+  trace-value t = give-value traceChecks _ _ _ t
+
+  pub trace-cleared : Given (traceCall m q z h scratch .answer)
+      → traceCall m q z h scratch .lent ≡ replicate ((m + 6) * factorial (suc m)) 0 ++ drop ((m + 6) * factorial (suc m)) scratch
+  unfolding traceCall needed
+  trace-cleared t = give-lent traceChecks _ _ _ t

@@ -8,7 +8,7 @@ use Rattle.refusals.specs.declared.Refusal.{Refusal}
 use Rattle.refusals.specs.declared.Verdict.{Verdict}
 use Rattle.refusals.specs.declared.Verdict.the-variants.{Accepted, Refused}
 use Rattle.refusals.specs.declared.Answer.{Answer}
-use Rattle.refusals.proofs.Ended.{ended-done}
+use Rattle.refusals.proofs.Ended.{ended-refused, ended-done}
 use Rattle.algebra.specs.Element.{Element}
 use Rattle.algebra.specs.Nested.{operations, nested}
 use Rattle.algebra.specs.Cost.{C}
@@ -16,7 +16,7 @@ use Rattle.algebra.proofs.Counts.{counts}
 use Rattle.element_calls.specs.declared.Parameters.{Parameters}
 use Rattle.element_calls.specs.declared.Valued.{Valued}
 use Rattle.element_calls.specs.Coefficients.{ring, Coefficient}
-use Rattle.element_calls.specs.Calls.{write, valued}
+use Rattle.element_calls.specs.Calls.{write, valued, give}
 use Rattle.element_calls.specs.Claims.{Taken, Given}
 
 -- ---- a call that writes
@@ -56,6 +56,32 @@ valued-refused v x e = sym (ap (λ v. valued v x) e)
 
 pub valued-done : (v : Verdict) (x : ℕ) {y : ℕ} → v ≡ Accepted → y ≡ x → record { verdict = Accepted; value = y } ≡ valued v x
 valued-done v x e f = ap {B = Valued} (λ z. record { verdict = Accepted; value = z }) f ∙ sym (ap (λ v. valued v x) e)
+
+-- ---- a call that writes and gives a word
+
+module _ {A : Type 0} where
+  pub give-refused : {v : Verdict} {why : Refusal} (x : ℕ) (old new : A) → v ≡ Refused why
+      → give v x old new ≡ record { answer = record { verdict = Refused why; value = 0 }; lent = old }
+  give-refused x old new e = ended-refused _ _ old new e refl
+
+  pub give-done : {v : Verdict} {y : ℕ} (x : ℕ) (old new last : A) → v ≡ Accepted → y ≡ x → last ≡ new
+      → give v x old new ≡ record { answer = record { verdict = Accepted; value = y }; lent = last }
+  give-done x old new last e f g = ended-done _ old e (ap {B = Valued} (λ z. record { verdict = Accepted; value = z }) f) g
+
+  pub give-verdict : (v : Verdict) (x : ℕ) (old new : A) → give v x old new .answer .verdict ≡ v
+  unfolding ended
+  give-verdict Accepted x old new = refl
+  give-verdict (Refused why) x old new = refl
+
+  pub give-value : (v : Verdict) (x : ℕ) (old new : A) → Given (give v x old new .answer) → give v x old new .answer .value ≡ x
+  unfolding ended
+  give-value Accepted x old new t = refl
+  give-value (Refused why) x old new t = let z : _≡_ {A = ℕ} 0 1 = cc in absurd (omega arith)
+
+  pub give-lent : (v : Verdict) (x : ℕ) (old new : A) → Given (give v x old new .answer) → give v x old new .lent ≡ new
+  unfolding ended
+  give-lent Accepted x old new t = refl
+  give-lent (Refused why) x old new t = let z : _≡_ {A = ℕ} 0 1 = cc in absurd (omega arith)
 
 -- ---- the count of a product
 

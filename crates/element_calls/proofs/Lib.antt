@@ -23,3 +23,5 @@ pub mod SignedCounts
 pub mod SignedCalls
 -- the pairing
 pub mod PairingCalls
+-- the trace
+pub mod TraceCalls

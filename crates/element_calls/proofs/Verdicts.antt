@@ -66,6 +66,12 @@ three-accepted m a b c e =
     (good .0, good .1, good .2, size-accepted m c (good .0) (accepts-next two (sizeVerdict m c) e))
 
 -- and the scratch
+pub trace-accepted : (m a n : ℕ) → (rankVerdict m then sizeVerdict m a then scratchVerdict m n) ≡ Accepted
+    → (m ≤ 6) × (a ≡ factorial (suc m)) × (needed m ≤ n)
+trace-accepted m a n e =
+    let one = rankVerdict m then sizeVerdict m a in let good = one-accepted m a (accepts-first one (scratchVerdict m n) e) in
+    (good .0, good .1, scratch-accepted m n (good .0) (accepts-next one (scratchVerdict m n) e))
+
 pub product-accepted : (m a b c n : ℕ)
     → (rankVerdict m then sizeVerdict m a then sizeVerdict m b then sizeVerdict m c then scratchVerdict m n) ≡ Accepted
     → (m ≤ 6) × (a ≡ factorial (suc m)) × (b ≡ factorial (suc m)) × (c ≡ factorial (suc m)) × (needed m ≤ n)

@@ -3,7 +3,8 @@
 --   Taken a        no check refuses a call with the answer a
 --   Given a        no check refuses a call with the answer a, which is one word
 --   NoneBelow x    no letter of x is below 0
---   Refusals       a call that is refused counts 0 and leaves every lent slice as it was; a pairing that is refused counts 0 and gives 0
+--   Refusals       a call that is refused counts 0 and leaves every lent slice as it was; a pairing or a trace
+--                  that is refused counts 0 and gives 0
 --   Accepts        a call that is taken has a rank of at most 6, elements of M = (m + 1)! words, scratch of at least (m + 6) M words, and a word of at most
 --                  4,096 letters from 1 to m, or from -m to m and not 0; and where a letter is below 0, q has an inverse
 use mathlib.Core.Path.{_≡_}
@@ -23,7 +24,7 @@ use Rattle.refusals.specs.declared.Answer.{Answer}
 use Rattle.perms.specs.Permutation.{Word}
 use Rattle.signed_words.specs.Words.{SignedWord, isBelow}
 use Rattle.element_calls.specs.declared.Valued.{Valued}
-use Rattle.element_calls.specs.Calls.{valuedReport, sumCall, scaleCall, actWordCall, actSignedWordCall, productCall, pairingCall}
+use Rattle.element_calls.specs.Calls.{valuedReport, sumCall, scaleCall, actWordCall, actSignedWordCall, productCall, pairingCall, traceCall}
 
 abbrev pub Taken : Answer → Type 0
 Taken a = a .verdict ≡ Accepted
@@ -45,6 +46,9 @@ pub record Refusals : Type 0 where
       (productCall m q h g result scratch .lent)
   pub pairing : (m q : ℕ) (h g : List ℕ) → Refuses (valuedReport (pairingCall m q h g))
   pub pairing-zero : (m q : ℕ) (h g : List ℕ) → valuedReport (pairingCall m q h g) .number ≢ 0 → pairingCall m q h g .value ≡ 0
+  pub trace : (m q z : ℕ) (h scratch : List ℕ) → Keeps (valuedReport (traceCall m q z h scratch .answer)) scratch (traceCall m q z h scratch .lent)
+  pub trace-zero : (m q z : ℕ) (h scratch : List ℕ) → valuedReport (traceCall m q z h scratch .answer) .number ≢ 0
+      → traceCall m q z h scratch .answer .value ≡ 0
 
 pub record Accepts : Type 0 where
   pub sum : (m : ℕ) (h g result : List ℕ) → Taken (sumCall m h g result .answer)
@@ -58,3 +62,5 @@ pub record Accepts : Type 0 where
       → (m ≤ 6) × (length h ≡ factorial (suc m)) × (length g ≡ factorial (suc m)) × (length result ≡ factorial (suc m))
       × ((m + 6) * factorial (suc m) ≤ length scratch)
   pub pairing : (m q : ℕ) (h g : List ℕ) → Given (pairingCall m q h g) → (m ≤ 6) × (length h ≡ factorial (suc m)) × (length g ≡ factorial (suc m))
+  pub trace : (m q z : ℕ) (h scratch : List ℕ) → Given (traceCall m q z h scratch .answer)
+      → (m ≤ 6) × (length h ≡ factorial (suc m)) × ((m + 6) * factorial (suc m) ≤ length scratch)

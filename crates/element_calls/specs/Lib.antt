@@ -5,3 +5,4 @@ pub mod Claims
 pub mod Demand3
 pub mod SignedCalls
 pub mod PairingCalls
+pub mod TraceCalls

@@ -1,2 +1,6 @@
-pub mod FirstBlock
-pub mod Gathering
+mod BlockOf
+mod FirstBlock
+mod Gathering
+mod Turning
+mod Lowering
+mod LevelByLevel

@@ -17,7 +17,7 @@ mod levels;
 
 // The trace of x, of rank m: each turn leaves an element of one rank less, which has the same trace, in the place of x.
 fn traced(x: &mut [u64], m: usize, z: u64, p: Parameters) -> u64
-    requires { ⌜ TracePre m (now x) ⌝ }
+    requires { ⌜ TracePre p m (now x) ⌝ }
     ensures { λ r. ⌜ r ≡ trace ℕ (ring p) (p .q) (p .r) z m (now (x .entry)) ⌝ }
 {
     if m == 0 {
