@@ -8,6 +8,5 @@ mod Listing
 mod EqualWords
 -- the calls
 mod Lent
-mod TraceGiven
 pub mod Front
 pub mod TextLengths

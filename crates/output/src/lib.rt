@@ -68,16 +68,11 @@ fn put_trace(buffer: &mut [u8], x: &[u64], header: Header, r: usize, z: u64) -> 
     requires { ⌜ Shown (header .rank) (now x) (now buffer) × (r < 4) ⌝ }
     ensures { λ n. ⌜ Overwritten 0 (shown header (Trace r z) (now (x .entry))) (now (buffer .entry)) (now (buffer .exit)) n ⌝ }
 {
-    let size = ranks::size(header.rank);
+    let rank = header.rank;
+    let size = ranks::size(rank);
     let from = 720 * r;
     let mut scratch = [0u64; 7920];
-    let traced = traces::trace(
-        header.rank,
-        header.q,
-        z,
-        &x[from..from + size],
-        &mut scratch,
-    );
+    let traced = traces::trace(rank, header.q, z, &x[from..from + size], &mut scratch);
     lines::put_line(buffer, 84, traced.value)
 }
 

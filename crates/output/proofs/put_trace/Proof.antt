@@ -1,13 +1,13 @@
--- The part that is lent is the element of the register. Rests on TraceGiven.
+-- The part that is lent is the element of the register, and the scratch is what its rank needs.
 use mathlib.Core.Path.{sym, ap, _∙_}
 use native.Mathlib.Nat.{le-trans}
 use native.Mathlib.Omega.{arith}
 use borrow.Author.Needs.{needs}
+use Rattle.element_calls.proofs.TraceCalls.{trace-gives}
 use Rattle.machine.proofs.Put.{lent-is, lent-size}
 use Rattle.output.specs.Printed.{shown}
 use Rattle.output.proofs.LineLengths.{line-short}
-use Rattle.output.proofs.Lent.{held, few}
-use Rattle.output.proofs.TraceGiven.{trace-gives}
+use Rattle.output.proofs.Lent.{held, few, enough}
 use Rattle.output.proofs.put_trace.Statement.{statement}
 use Rattle.output.proofs.put_trace.Tie as tie
 
@@ -36,7 +36,7 @@ returns c =
     let s0 = start sized in
     let z = held (s0 .pre .0) (sized .size .ensures) in
     let value = sym (ap (λ o. o .answer .value) (traced put .trace .ensures))
-    ∙ trace-gives _ _ _ _ _ (s0 .pre .0 .low) (lent-size z (s0 .pre .1)) (omega arith) in
+    ∙ trace-gives _ _ _ _ _ (omega (arith, s0 .pre .0 .low)) (lent-size z (s0 .pre .1)) (enough (s0 .pre .0) (omega arith)) in
     rw (value, lent-is z (s0 .pre .1)) at (put .put-line .ensures)
 
 pub put-trace-spec : {M : Type 1} → statement M
