@@ -1,18 +1,18 @@
-"""Elements and their product by the definition over permutations (document 01, "Elements and their product"; document 02, Tickets 1
-and 2).
+"""Elements and their product by the definition over permutations (document 01, "Elements and their product"; document 02, Tickets 1,
+2 and 4).
 
 An element of rank m is the list of its M = (m + 1)! coefficients, words modulo 2^64. Towers appear in the place of a
 coefficient and nowhere else.
 
 The functions named `call_...` are the library's calls: they judge their lists in the order of document 01's table,
-raise Refused before they write anything, otherwise write into the lent lists, and return the count. The call of the
-pairing writes and counts nothing, and returns the pairing.
+raise Refused before they write anything, otherwise write into the lent lists, and return the count. The calls of the
+pairing and the trace count nothing, and return the pairing and the trace; of the lent lists only the trace's scratch is written.
 """
 from functools import lru_cache
 from itertools import permutations as arrangements
 from math import factorial
 
-from reference.permutations import generator, identity, inverse, length, product as compose, tower
+from reference.permutations import cycle, generator, identity, inverse, length, product as compose, tower
 from reference.refusals import Refused
 
 WORD = 2 ** 64
@@ -128,6 +128,20 @@ def pairing(m, q, a, b):
     return sum(pow(q, n, WORD) * x * b[other] for x, (n, other) in zip(a, lengths_and_inverses(m))) % WORD
 
 
+def trace(m, q, z, h):
+    """The Markov trace of h with the parameter z (document 02, Ticket 4).
+
+    At rank 0 it is the coefficient. At rank m it is that of h_0, plus z times the sum over k = 1 to m of that of
+    h_k T_{a(m - 1, k - 1)}, where h_k is block k of h.
+    """
+    if m == 0:
+        return h[0]
+    block = size(m - 1)
+    first, *rest = (h[at:at + block] for at in range(0, len(h), block))
+    turned = (act(m - 1, q, h_k, cycle(m - 1, k - 1)) for k, h_k in enumerate(rest, 1))
+    return (trace(m - 1, q, z, first) + z * sum(trace(m - 1, q, z, g) for g in turned)) % WORD
+
+
 # ---- the count
 
 def letter_count(m):
@@ -187,6 +201,12 @@ def check_inverses(q, word):
             raise Refused(15, index)
 
 
+def clear_scratch(m, scratch):
+    """What a call that was lent scratch leaves of it."""
+    used = (m + 6) * size(m)
+    scratch[:used] = [0] * used
+
+
 # ---- the calls
 
 def call_sum(m, h, g, result):
@@ -225,8 +245,7 @@ def call_product(m, q, h, g, result, scratch):
     check_elements(m, h, g, result)
     check_scratch(m, scratch)
     result[:] = product(m, q, h, g)
-    used = (m + 6) * size(m)
-    scratch[:used] = [0] * used
+    clear_scratch(m, scratch)
     return product_count(m, m)
 
 
@@ -234,3 +253,11 @@ def call_pairing(m, q, h, g):
     check_rank(m)
     check_elements(m, h, g)
     return pairing(m, q, h, g)
+
+
+def call_trace(m, q, z, h, scratch):
+    check_rank(m)
+    check_elements(m, h)
+    check_scratch(m, scratch)
+    clear_scratch(m, scratch)
+    return trace(m, q, z, h)

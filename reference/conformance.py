@@ -11,19 +11,20 @@ from math import factorial
 from reference.algebra import WORD, mirror, permutations, place, size
 from reference.permutations import inverse, standard_word, tower
 from reference.sheet import (BEGIN, EQUAL, INVERSE, LETTER, MOST_BYTES, MOST_RANK, OPERANDS, PAIR, PRODUCT, REGISTERS, SCALE, SET,
-                             SHOW, SUM, UNIT, printed)
+                             SHOW, SUM, TRACE, UNIT, printed)
 from reference.sheet_cases import END, EXAMPLE, braid, command, random_sheet
 
 FOLDER = 'conformance/sheets'
 WRITTEN_BY_HAND = {'conformance/README.md', 'conformance/run.py'}
 
-begin, unit, put, letter, product, add, scale, inverse_letter, show, pair, equal = (
-    partial(command, code) for code in (BEGIN, UNIT, SET, LETTER, PRODUCT, SUM, SCALE, INVERSE, SHOW, PAIR, EQUAL))
+begin, unit, put, letter, product, add, scale, inverse_letter, show, pair, equal, trace = (
+    partial(command, code) for code in (BEGIN, UNIT, SET, LETTER, PRODUCT, SUM, SCALE, INVERSE, SHOW, PAIR, EQUAL, TRACE))
 NAMES = {0x00: 'end', BEGIN: 'begin', UNIT: 'unit', SET: 'set', LETTER: 'letter', PRODUCT: 'product', SUM: 'sum',
-         SCALE: 'scale', INVERSE: 'inverse', SHOW: 'show', PAIR: 'pairing', EQUAL: 'equality'}
+         SCALE: 'scale', INVERSE: 'inverse', SHOW: 'show', PAIR: 'pairing', EQUAL: 'equality', TRACE: 'trace'}
 RANKS = range(MOST_RANK + 1)
 PARAMETERS = {'0': 0, '1': 1, '2': 2, '3': 3, '2_to_63': 2 ** 63, '2_to_64_less_1': WORD - 1}
 ODD = {name: q for name, q in PARAMETERS.items() if q % 2}
+WORDS = {'0': 0, '1': 1, '2': 2, '2_to_32': 2 ** 32, '2_to_63': 2 ** 63, '2_to_64_less_1': WORD - 1}
 EVEN = {name: q for name, q in PARAMETERS.items() if q % 2 == 0} | {'2_to_64_less_2': WORD - 2}
 BYTES = 0xF1E2_D3C4_B5A6_9788  # eight different bytes
 LONGEST_WORD = standard_word(range(1, MOST_RANK + 1))
@@ -264,6 +265,54 @@ def equalities():
     yield 'of_unit_and_coefficient_0', sheet(2, 3, unit(0), put(1, 0, 1), equal(0, 1))
 
 
+def in_turn(m, z):
+    """The trace of each T_w of rank m, in register 0."""
+    return b''.join(put(0, w, 1) + trace(0, z) + put(0, w, 0) for w in range(size(m)))
+
+
+def traces():
+    """0x43 by itself; at each q and some z; of braids, and of these with a strand more."""
+    yield 'of_6_and_7_at_q_3_z_5', sheet(1, 3, put(0, 0, 6), put(0, 1, 7), trace(0, 5))
+    yield 'each_basis_element_in_one_number_rank_2', sheet(2, 3, *(put(0, k, 10 ** k) for k in range(6)), trace(0, 5))
+    for m in (2, 3):
+        yield f'of_each_basis_element_rank_{m}', sheet(m, 3, in_turn(m, 5))
+    yield 'each_register', sheet(2, 3, loaded(2), *(trace(r, 5) for r in range(REGISTERS)))
+    yield 'leaves_the_registers', sheet(2, 3, loaded(2), trace(1, 5), SHOWS)
+    yield 'of_zero', sheet(2, 3, unit(0), trace(1, 5))
+    yield 'of_the_unit_rank_5', sheet(5, 3, unit(0), trace(0, BYTES))
+    for m in RANKS:
+        yield f'of_random_words_rank_{m}', sheet(m, 3, element(random.Random(m), m, 0), trace(0, 5), trace(0, BYTES))
+    full = element(random.Random(4), 3, 0)
+    for name, z in WORDS.items():
+        yield f'at_z_{name}_rank_3', sheet(3, 3, full, trace(0, z))
+    yield 'at_z_lowest_byte_first', sheet(1, 3, put(0, 1, 1), trace(0, BYTES))
+    for name, q in PARAMETERS.items():
+        yield f'at_q_{name}_rank_3', sheet(3, q, full, trace(0, 5), trace(0, BYTES))
+    for m in RANKS[4:]:
+        yield f'at_q_lowest_byte_first_rank_{m}', sheet(m, BYTES, element(random.Random(m), m, 0), trace(0, BYTES))
+    yield 'at_q_2_to_63_rank_1', sheet(1, 2 ** 63, put(0, 0, 6), put(0, 1, 7), trace(0, 5))
+    yield 'wraps', sheet(1, 3, put(0, 0, WORD - 1), put(0, 1, 2 ** 32 + 1), trace(0, 2 ** 32))
+    yield 'every_word_2_to_64_less_1', sheet(3, 3, *(put(0, k, WORD - 1) for k in range(size(3))), trace(0, 5))
+    yield 'of_longest_rank_5', sheet(5, 3, put(0, size(5) - 1, 1), trace(0, 5))
+    yield 'of_a_chain_of_each_letter_rank_5', sheet(5, 3, unit(0), braid(0, (3, 1, 5, 2, 4)), trace(0, 5))
+    both = add(2, 0, 1) + scale(1, BYTES) + add(3, 0, 1)
+    yield 'of_a_sum_and_a_scaling_rank_3', sheet(3, 3, two_elements(3), trace(0, 5), trace(1, 5), both, *(trace(r, 5) for r in (2, 1, 3)))
+    yield 'trefoil_on_two_strands', sheet(1, 3, unit(0), braid(0, (1, 1, 1)), trace(0, 5))
+    yield 'trefoil_on_three_strands', sheet(2, 3, unit(0), braid(0, (1, 1, 1, 2)), trace(0, 5))
+    for m in RANKS[1:]:
+        yield f'of_a_strand_added_is_z_times_rank_{m}', strand_added(m)
+    yield 'of_a_strand_added_the_other_way_rank_2', sheet(2, 3, unit(0), braid(0, (1, 1, 1, -2)), trace(0, 8))
+    yield 'between_commands', sheet(1, 3, trace(0, 5), *(step + trace(0, 5) for step in (unit(0), letter(0, 1), put(0, 0, 8), scale(0, 2))))
+
+
+def strand_added(m):
+    """x and y have random words at some permutations of rank m - 1: the traces of xy and of x T_m y."""
+    source = random.Random(m)
+    indexes = source.sample(range(factorial(m)), min(factorial(m), 20))
+    start = b''.join(put(r, index, source.randrange(WORD)) for index in indexes for r in (0, 1))
+    return sheet(m, 3, start, product(2, 0, 1), letter(0, m), product(3, 0, 1), trace(2, BYTES), trace(3, BYTES))
+
+
 def shows():
     yield 'zero_registers', sheet(2, 3, SHOWS)
     yield 'each_register', sheet(2, 3, loaded(2), *(show(r) for r in (2, 0, 3, 1)))
@@ -277,6 +326,8 @@ def shows():
 
 def counts():
     yield 'of_nothing', sheet(3, 3, unit(0), put(0, 5, 7), show(1), pair(0, 1), equal(0, 1), unit(2))
+    yield 'of_a_trace_is_0', sheet(3, 3, unit(0), trace(0, 5), trace(0, 5))
+    yield 'of_a_letter_and_100_traces_rank_2', sheet(2, 3, unit(0), letter(0, 1), trace(0, 5) * 100)
     for m in RANKS:
         one_letter = letter(0, 1) if m else b''
         yield f'of_1_letter_10_sums_100_scalings_rank_{m}', sheet(m, 3, one_letter, add(0, 1, 2) * 10, scale(0, 2) * 100)
@@ -318,7 +369,7 @@ AT_EVEN_Q = begin(2, 2) + unit(0)  # the next command stands at 12
 
 def with_operand(code, name, value):
     """The command with that value of the named operand, and the others in range."""
-    usual = {'m': 2, 'q': 3, 'r': 1, 'd': 1, 'a': 2, 'b': 3, 'index': 1, 'i': 1, 'v': BYTES}
+    usual = {'m': 2, 'q': 3, 'r': 1, 'd': 1, 'a': 2, 'b': 3, 'index': 1, 'i': 1, 'v': BYTES, 'z': BYTES}
     return command(code, *(value if operand == name else usual[operand] for operand in OPERANDS[code]))
 
 
@@ -338,7 +389,7 @@ def refused_sizes():
 def unknown_commands():
     for code in (0x01, 0x11, 0xff):
         yield 10, 0, f'code_{code:02x}', bytes([code]) + START[1:] + END
-    for code in (0x0f, 0x11, 0x22, 0x35, 0x43, 0xb1, 0xff):
+    for code in (0x0f, 0x11, 0x22, 0x35, 0x44, 0xb1, 0xff):
         yield 10, 12, f'code_{code:02x}', LATER + bytes([code, 0, 0, 0]) + END
     yield 10, 20, 'code_02_after_shows', AFTER_SHOWS + b'\x02' + END
     yield 10, 4095, 'last_byte_of_a_full_sheet', filled(MOST_BYTES)[:-1] + b'\xff'
@@ -368,7 +419,7 @@ def operands_out_of_range():
         yield 13, 0, f'rank_{m}', begin(m, 3) + END
     for code, name in NAMES.items():
         for operand in (x for x in OPERANDS[code] if x in 'rdab'):
-            for r in (4, 255) if code in (SET, PRODUCT) else (4,):
+            for r in (4, 255) if code in (SET, PRODUCT, TRACE) else (4,):
                 yield 13, 12, f'{name}_operand_{operand}_is_{r}', LATER + with_operand(code, operand, r) + END
     for m in RANKS:
         yield 13, 10, f'index_past_the_last_rank_{m}', begin(m, 3) + put(0, size(m), 1) + END
@@ -417,7 +468,9 @@ def competing_faults():
     yield 11, 0, 'before_13_rank_9_and_cut', b'\x10\x09'
     yield 11, 12, 'before_13_register_9_and_cut', LATER + b'\x21\x09\0'
     yield 11, 12, 'before_13_letter_of_register_9_cut', LATER + b'\x30\x09'
+    yield 11, 12, 'before_13_trace_of_register_9_cut', LATER + trace(9, 5)[:9]
     yield 12, 0, 'before_13_register_9_first', unit(9) + START + END
+    yield 12, 0, 'before_13_trace_of_register_9_first', trace(9, 5) + START + END
     yield 12, 10, 'before_13_begin_again_with_rank_9', START + begin(9, 3) + END
     yield 13, 0, 'before_12_rank_6_then_begin', begin(6, 3) + START + END
     yield 13, 12, 'before_10_register_9_then_unknown', LATER + unit(9) + b'\xff' + END
@@ -456,7 +509,8 @@ def competing_faults():
 REFUSALS = (refused_sizes, unknown_commands, cut_commands, misplaced_commands, operands_out_of_range, wrong_ends, missing_inverses)
 GROUPS = {'document': documents, 'unit': units, 'set': sets, 'letter': some_letters, 'inverse': inverse_letters,
           'product': products, 'parameter': parameters, 'action': actions, 'slip': slips, 'sum': sums, 'scale': scales,
-          'pairing': pairings, 'equality': equalities, 'show': shows, 'count': counts, 'size': sizes, 'mixture': mixtures}
+          'pairing': pairings, 'equality': equalities, 'trace': traces, 'show': shows, 'count': counts, 'size': sizes,
+          'mixture': mixtures}
 
 
 def kit():

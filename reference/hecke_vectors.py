@@ -1,7 +1,7 @@
 """Calls on elements for the test program `hecke_vectors`, and their whole outcomes.
 
 A vector is a call, a rank, the word q or c, two lists of words, a word of letters, and the sizes of the lent result and
-scratch. A letter is a byte; a signed one is below 0 as 256 less.
+scratch. A letter is a byte; a signed one is below 0 as 256 less. The second list of a trace is the word z.
 """
 import random
 from itertools import product as every
@@ -11,11 +11,12 @@ from reference.algebra import MOST_LETTERS, WORD, basis, size
 from reference.permutations import inverse, of_word, standard_word
 from reference.refusals import Refused
 
-SUM, SCALE, ACT_WORD, PRODUCT, ACT_SIGNED_WORD, PAIRING = range(1, 7)
+SUM, SCALE, ACT_WORD, PRODUCT, ACT_SIGNED_WORD, PAIRING, TRACE = range(1, 8)
 LENT = 170  # each word of the result and the scratch before the call
 SHOWN = 120  # the most words that are written in full
 DIGEST_BASE = 0x5851F42D4C957F2D
 QS = 0, 1, 2, 3, WORD - 1
+ZS = 0, 1, 5, WORD - 1
 
 
 def record(call, m, q, left, right, word, room, scratch):
@@ -39,20 +40,22 @@ def digest(words):
 
 
 def line(call, m, q, left, right, word, room, scratch):
-    """A and the count or the pairing, or E with the number, the place and 0; the slice that the call writes; the scratch's digest."""
+    """A and the count, the pairing or the trace, or E with the number, the place and 0; the slice that the call writes; the scratch's
+    digest."""
     left, result, scratch = list(left), [LENT] * room, [LENT] * scratch
     calls = {SUM: lambda: algebra.call_sum(m, left, right, result), SCALE: lambda: algebra.call_scale(m, q, left, result),
              ACT_WORD: lambda: algebra.call_act(m, q, left, word),
              ACT_SIGNED_WORD: lambda: algebra.call_act_signed(m, q, left, word),
              PRODUCT: lambda: algebra.call_product(m, q, left, right, result, scratch),
-             PAIRING: lambda: algebra.call_pairing(m, q, left, right)}
+             PAIRING: lambda: algebra.call_pairing(m, q, left, right),
+             TRACE: lambda: algebra.call_trace(m, q, right[0], left, scratch)}
     try:
         fields = ['A', calls[call]()]
     except Refused as refusal:
         fields = ['E', refusal.number, refusal.place, 0]
     written = left if call in (ACT_WORD, ACT_SIGNED_WORD) else result
     fields += written if len(written) <= SHOWN else [digest(written)]
-    if call == PRODUCT:
+    if call in (PRODUCT, TRACE):
         fields.append(digest(scratch))
     return ' '.join(map(str, fields)) + '\n'
 
@@ -83,8 +86,12 @@ def on_pairing(m, q, h, g):
     return PAIRING, m, q, h, g, [], 0, 0
 
 
+def on_trace(m, q, z, h, scratch=0):
+    return TRACE, m, q, h, [z], [], 0, max(0, (m + 6) * len(h) + scratch)
+
+
 def on_all(m, q, h, g, word):
-    """Each call but that of signed words and the pairing."""
+    """Each call but that of signed words, the pairing and the trace."""
     yield on_sum(m, h, g)
     yield on_scale(m, q, h)
     yield on_word(m, q, h, word)
@@ -357,13 +364,84 @@ def refused_pairings(source):
         yield from (on_pairing(m, 3, *two) for two in every(([], h), repeat=2))
 
 
+# ---- the trace
+
+def worked_traces():
+    """Rank 1 at two q, by the rule a + z b; all of rank 2 in one number; the example in the comment of `traces`; the trefoil on two strands
+    and on three."""
+    for q in (3, 2):
+        yield on_trace(1, q, 5, [4, 7])
+    yield on_trace(2, 3, 5, [10 ** k for k in range(6)])
+    yield on_trace(1, 3, 5, [2, 3])
+    for m, word in ((1, [1, 1, 1]), (2, [1, 1, 1, 2])):
+        yield on_trace(m, 3, 5, algebra.act(m, 3, algebra.unit(m), word))
+
+
+def basis_traces():
+    """Each T_w of ranks 0 to 3."""
+    for m in range(4):
+        for w in algebra.permutations(m):
+            yield on_trace(m, 3, 5, basis(w))
+
+
+def random_traces(source):
+    """At ranks 0 to 4 with each of the q, an even one and two others, and with some z; at ranks 5 and 6 with an odd and an even q."""
+    for m in range(5):
+        for q in (*QS, source.randrange(0, WORD, 2), source.randrange(WORD), source.randrange(WORD)):
+            for z in (source.choice(ZS), source.randrange(WORD)):
+                yield on_trace(m, q, z, random_element(source, m), scratch=3)
+    for m in (5, 6):
+        for q in (source.randrange(1, WORD, 2), source.randrange(0, WORD, 2)):
+            yield on_trace(m, q, source.randrange(WORD), random_element(source, m))
+
+
+def edge_traces(source):
+    """Each of the z at ranks 0 to 4; every word 2^64 - 1, with q and z so too."""
+    for m in range(5):
+        h = random_element(source, m)
+        yield from (on_trace(m, 3, z, h) for z in ZS)
+        yield on_trace(m, WORD - 1, WORD - 1, [WORD - 1] * size(m))
+
+
+def added_strands(source):
+    """x T_m y for x and y of rank m - 1, and xy at rank m and one rank below: the first trace is z times the other two."""
+    for m in range(1, 5):
+        x, y = random_element(source, m - 1), random_element(source, m - 1)
+        above = [h + [0] * (size(m) - len(h)) for h in (x, y)]
+        for q, z in ((3, 5), (source.randrange(WORD), source.randrange(WORD))):
+            crossed = algebra.product(m, q, algebra.times_generator(m, q, above[0], m), above[1])
+            yield on_trace(m, q, z, crossed)
+            yield on_trace(m, q, z, algebra.product(m, q, *above))
+            yield on_trace(m - 1, q, z, algebra.product(m - 1, q, x, y))
+
+
+def refused_traces(source):
+    """The element one word short, one word longer and empty, at rank 6 one word short. The scratch one word short, exact, one word and 20
+    words longer, and empty. Ranks above 6, whatever the slices are. 1 before 2 and 3, and 2 before 3."""
+    for m in (0, 1, 3):
+        h = random_element(source, m)
+        for other in (h[:-1], h + [1], []):
+            for scratch in ((m + 6) * len(h), 0):
+                yield TRACE, m, 3, other, [5], [], 0, scratch
+        for scratch in (-1, 0, 1, 20, -(m + 6) * len(h)):
+            yield on_trace(m, 3, 5, h, scratch=scratch)
+    h = random_element(source, 6)
+    yield TRACE, 6, 3, h[:-1], [5], [], 0, 60480
+    yield on_trace(6, 3, 5, h, scratch=-1)
+    for m in (7, 8, 64, 255):
+        for words, scratch in (([], 0), (h[:2], 14), (h[:2], 0)):
+            yield TRACE, m, 3, words, [5], [], 0, scratch
+    yield TRACE, 7, 3, h, [5], [], 0, 60480
+
+
 def hecke_vectors():
-    """Calls of the six functions on elements, and their whole outcomes."""
+    """Calls of the seven functions on elements, and their whole outcomes."""
     source = random.Random(0)
     vectors = [*worked_cases(), *random_calls(source), *large_calls(source), *ranks(source), *sizes(source),
                *shortest_words(source), *words(source), *order_of_checks(source), *signed_worked_cases(), *signed_words(source),
                *mirrors(source), *large_signed_words(source), *signed_refusals(source), *long_signed_words(source),
                *order_of_signed_checks(source), *worked_pairings(), *basis_pairings(), *random_pairings(source),
-               *refused_pairings(source)]
+               *refused_pairings(source), *worked_traces(), *basis_traces(), *random_traces(source), *edge_traces(source),
+               *added_strands(source), *refused_traces(source)]
     yield 'crates/hecke_vectors/stdin', b''.join(record(*v) for v in vectors)
     yield 'crates/hecke_vectors/stdout', ''.join(line(*v) for v in vectors).encode()

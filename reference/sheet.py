@@ -1,4 +1,4 @@
-"""Run sheets (document 01, "Run sheets", and document 02, Tickets 1 and 2): bytes in, text out."""
+"""Run sheets (document 01, "Run sheets", and document 02, Tickets 1, 2 and 4): bytes in, text out."""
 from collections import namedtuple
 
 from reference import algebra
@@ -9,8 +9,8 @@ MOST_RANK = 5
 REGISTERS = 4
 REGISTER_WORDS = 720
 
-END, BEGIN, UNIT, SET, LETTER, PRODUCT, SUM, SCALE, INVERSE, SHOW, PAIR, EQUAL = (
-    0x00, 0x10, 0x20, 0x21, 0x30, 0x31, 0x32, 0x33, 0x34, 0x40, 0x41, 0x42)
+END, BEGIN, UNIT, SET, LETTER, PRODUCT, SUM, SCALE, INVERSE, SHOW, PAIR, EQUAL, TRACE = (
+    0x00, 0x10, 0x20, 0x21, 0x30, 0x31, 0x32, 0x33, 0x34, 0x40, 0x41, 0x42, 0x43)
 
 # the operands of each command, by name, with their widths in bytes
 OPERANDS = {
@@ -26,6 +26,7 @@ OPERANDS = {
     SHOW: {'r': 1},
     PAIR: {'a': 1, 'b': 1},
     EQUAL: {'a': 1, 'b': 1},
+    TRACE: {'r': 1, 'z': 8},
 }
 
 Command = namedtuple('Command', 'code operands')
@@ -121,6 +122,8 @@ def run(sheet):
             lines.append(f'P {algebra.pairing(m, q, registers[a], registers[b])}')
         elif code == EQUAL:
             lines.append(f'Q {int(registers[a] == registers[b])}')
+        elif code == TRACE:
+            lines.append(f'T {algebra.trace(m, q, operands["z"], registers[r])}')
     count = sum(cost(m, command.code) for command in commands)
     lines.append(f'N {count}')
     return Run([x + [0] * (REGISTER_WORDS - len(x)) for x in registers], count, lines)

@@ -4,7 +4,7 @@ import random
 from reference.algebra import WORD, mirror, permutations, place, size
 from reference.permutations import inverse
 from reference.sheet import (BEGIN, EQUAL, INVERSE, LETTER, MOST_BYTES, MOST_RANK, OPERANDS, PAIR, PRODUCT, REGISTERS, SCALE, SET,
-                             SHOW, SUM, UNIT)
+                             SHOW, SUM, TRACE, UNIT)
 
 END = b'\0'
 EXAMPLE = bytes.fromhex('10 01 03 00 00 00 00 00 00 00 20 00 30 00 01 30 00 01 40 00 00')
@@ -26,7 +26,7 @@ def random_command(source, m, codes):
     code = source.choice(codes)
     values = {'index': lambda: source.choice([0, size(m) - 1, source.randrange(size(m))]),
               'i': lambda: source.choice([1, m, source.randint(1, m)]),
-              'v': lambda: word(source)}
+              'v': lambda: word(source), 'z': lambda: word(source)}
     return command(code, *(values.get(name, lambda: source.randrange(REGISTERS))() for name in OPERANDS[code]))
 
 
@@ -38,7 +38,7 @@ def braid(r, word):
 def random_sheet(source, m, q, commands):
     """A valid sheet: some coefficients, any commands, and each register shown at the end."""
     body = [command(BEGIN, m, q)] + [random_command(source, m, [SET]) for _ in range(source.randrange(12))]
-    codes = [UNIT, SET, PRODUCT, SUM, SCALE, SHOW, PAIR, EQUAL] + [LETTER] * 3 * (m > 0) + [INVERSE] * 3 * (m > 0 and q % 2)
+    codes = [UNIT, SET, PRODUCT, SUM, SCALE, SHOW, PAIR, EQUAL, TRACE] + [LETTER] * 3 * (m > 0) + [INVERSE] * 3 * (m > 0 and q % 2)
     products = 0
     for _ in range(commands):
         one = random_command(source, m, codes)
@@ -76,6 +76,16 @@ def paired(source, m, q):
     return b''.join([command(BEGIN, m, q), start, pairs, command(PRODUCT, 2, 0, 1), command(UNIT, 3), command(PAIR, 2, 3), END])
 
 
+def traced(source, m, q):
+    """x and y have random words at some permutations of rank m - 1: for some z the traces of xy, of x T_m y, which is z times the
+    first, and of another element of rank m. At rank 0 there is no letter, and the first two are equal."""
+    both = b''.join(command(SET, r, source.randrange(size(max(m - 1, 0))), word(source)) for _ in range(9) for r in (0, 1))
+    products = command(PRODUCT, 2, 0, 1) + braid(0, [m] * (m > 0)) + command(PRODUCT, 3, 0, 1)
+    another = b''.join(command(SET, 0, source.randrange(size(m)), word(source)) for _ in range(9))
+    traces = b''.join(command(TRACE, r, z) for z in (0, 1, WORD - 1, source.randrange(WORD)) for r in (2, 3, 0))
+    return command(BEGIN, m, q) + both + products + another + traces + END
+
+
 def bounds(m):
     """Each operand at and past its bounds, by rank."""
     start = command(BEGIN, m, 3)
@@ -89,6 +99,7 @@ def bounds(m):
                 yield start + command(code, *(r if k == place else 0 for k in range(operands))) + END
     for r in (3, 4, 255):
         yield start + command(SCALE, r, 2) + END
+        yield start + command(TRACE, r, WORD - 1) + END
         yield start + command(SET, r, 0, 2) + END
         yield start + command(LETTER, r, m) + END
         yield start + command(INVERSE, r, m) + END
@@ -150,7 +161,8 @@ def every_command(m, q):
     """A short sheet with every command."""
     return b''.join([command(BEGIN, m, q), command(UNIT, 0), command(SET, 1, size(m) - 1, 258), command(LETTER, 0, m),
                      command(INVERSE, 0, 1), command(PRODUCT, 2, 0, 1),
-                     command(SUM, 3, 2, 0), command(SCALE, 3, 513), command(SHOW, 3), command(PAIR, 2, 3), command(EQUAL, 0, 1)]) + END
+                     command(SUM, 3, 2, 0), command(SCALE, 3, 513), command(SHOW, 3), command(PAIR, 2, 3), command(EQUAL, 0, 1),
+                     command(TRACE, 3, 771)]) + END
 
 
 def sizes():
@@ -185,6 +197,8 @@ def cases():
         yield command(BEGIN, source.randrange(6), 2) + bytes(source.choice([*OPERANDS, 0, 1, 2]) for _ in range(source.randrange(60)))
     for q in PARAMETERS:
         yield from (paired(source, m, q) for m in range(MOST_RANK + 1))
+    for q in PARAMETERS:
+        yield from (traced(source, m, q) for m in range(MOST_RANK + 1))
 
 
 def short():

@@ -1,5 +1,5 @@
-"""The stored vectors: inputs and expected outputs of the test programs, the tables that `perms` and `algebra` compute, and the sheets
-of the conformance kit with their texts, made by this program.
+"""The stored vectors: inputs and expected outputs of the test programs, the tables that `perms`, `algebra` and `markov_trace` compute,
+and the sheets of the conformance kit with their texts, made by this program.
 
     python3 -m reference.vectors            write the files
     python3 -m reference.vectors --check    say which files differ from what is made today or, in the kit, are not made, and fail if
@@ -235,7 +235,8 @@ def perms_vectors():
 
 # ---- tables for the prover
 #
-# The definitions of the crates `perms` and `algebra` are computed by the prover, so their vectors are tables in its language.
+# The definitions of the crates `perms`, `algebra` and `markov_trace` are computed by the prover, so their vectors are tables in its
+# language.
 
 def numbers(a):
     return ''.join(f'{x} ∷ ' for x in a) + '[]'
@@ -303,9 +304,14 @@ pub data Vector : Type 0 where
 '''
 
 
+def random_element(source, m):
+    """Words of all sizes."""
+    return [source.randrange(2 ** source.choice((2, 8, 64))) for _ in range(algebra.size(m))]
+
+
 def product_vector(source, m, l, q):
-    """Random elements of ranks m and l with words of all sizes, their product, and its count."""
-    h, g = ([source.randrange(2 ** source.choice((2, 8, 64))) for _ in range(algebra.size(n))] for n in (m, l))
+    """Random elements of ranks m and l, their product, and its count."""
+    h, g = random_element(source, m), random_element(source, l)
     padded = g + [0] * (algebra.size(m) - algebra.size(l))
     hg = algebra.product(m, q, h, padded)
     return f'vector {m} {l} {q} ({numbers(h)}) ({numbers(g)}) ({numbers(hg)}) {algebra.product_count(m, l)}'
@@ -319,12 +325,37 @@ def algebra_vectors():
     yield 'crates/algebra/proofs/Vectors.antt', (PRODUCTS_HEAD + table('vectors', 'Vector', rows)).encode()
 
 
+TRACES_HEAD = '''-- Traces as the reference program computes them: written by `python3 -m reference.vectors`.
+--
+--   vector m q z h t    h of rank m has the trace t with the parameter z
+use mathlib.Core.List.{List, [], _∷_}
+use Prim.Native.Nat.{ℕ}
+
+pub data Vector : Type 0 where
+  vector : ℕ → ℕ → ℕ → List ℕ → ℕ → Vector
+'''
+
+
+def trace_vector(m, q, z, h):
+    return f'vector {m} {q} {z} ({numbers(h)}) {algebra.trace(m, q, z, h)}'
+
+
+def trace_vectors():
+    """Random elements of ranks 0 to 2 for each of six q, with one of four z, and two of rank 3; each basis element of rank 2."""
+    source = random.Random(0)
+    rows = [trace_vector(m, q, source.choice((0, 1, WORD - 1, source.randrange(WORD))), random_element(source, m))
+            for m in range(3) for q in (0, 1, 2, 3, 10, WORD - 1)]
+    rows += [trace_vector(3, q, source.randrange(WORD), random_element(source, 3)) for q in (3, source.randrange(WORD))]
+    rows += [trace_vector(2, 3, 5, algebra.basis(w)) for w in algebra.permutations(2)]
+    yield 'crates/markov_trace/proofs/Vectors.antt', (TRACES_HEAD + table('vectors', 'Vector', rows)).encode()
+
+
 def main(arguments):
     if arguments not in ([], ['--check']):
         sys.exit(__doc__)
     made, stale = [], []
-    for name, contents in chain(ring_vectors(), perms_vectors(), permutation_tables(), algebra_vectors(), hecke_vectors(), sheet_vectors(),
-                                conformance_kit()):
+    for name, contents in chain(ring_vectors(), perms_vectors(), permutation_tables(), algebra_vectors(), trace_vectors(),
+                                hecke_vectors(), sheet_vectors(), conformance_kit()):
         path = ROOT / name
         made.append(name)
         if not arguments:

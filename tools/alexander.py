@@ -52,7 +52,7 @@ def shown(text):
     m, q = numbers('H ', MOST_RANK, head)
     element = {}
     for line in lines[next(at for at, line in enumerate(lines, 1) if line[:1] == 'R'):]:
-        if line[:1] in ('P', 'Q', 'R', 'N'):
+        if line[:1] in ('P', 'Q', 'R', 'T', 'N'):
             return m, q, element
         index, coefficient = numbers('', size(m) - 1, line)
         element[index] = coefficient

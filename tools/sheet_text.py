@@ -11,11 +11,11 @@ refused, and for a FILE that cannot be read; else 0. A refused sheet is decoded 
 The text has one command a line. Blank lines, and what follows a #, mean nothing.
 
     begin M Q    unit R    set R INDEX V    letter R I    inverse R I    product D A B    sum D A B    scale R V
-    show R    pair A B    equal A B    end
+    show R    pair A B    equal A B    trace R Z    end
     letters R I I ..       a row of letter commands, and of inverse commands for -I: how a braid word is written
     bytes BYTE BYTE ..     bytes as they are: how decode writes what is no command
 
-Numbers are decimal, or hexadecimal after 0x. Q and V may be negative, down to -2^63: -1 is 2^64 - 1. INDEX may be a shortest
+Numbers are decimal, or hexadecimal after 0x. Q, V and Z may be negative, down to -2^63: -1 is 2^64 - 1. INDEX may be a shortest
 word such as s1s2. What fits an operand's bytes is encoded whether it is in range or not, so that damaged sheets can be written.
 """
 import re
@@ -29,11 +29,11 @@ from reference.algebra import place, size  # noqa: E402
 from reference.permutations import length, of_word  # noqa: E402
 from reference.refusals import Refused  # noqa: E402
 from reference.sheet import (BEGIN, END, EQUAL, INVERSE, LETTER, MOST_BYTES, MOST_RANK, OPERANDS, PAIR, PRODUCT,  # noqa: E402
-                             REGISTERS, SCALE, SET, SHOW, SUM, UNIT, check, cost, decode, in_range)
+                             REGISTERS, SCALE, SET, SHOW, SUM, TRACE, UNIT, check, cost, decode, in_range)
 from reference.sheet_cases import command  # noqa: E402
 
 CODES = {'begin': BEGIN, 'unit': UNIT, 'set': SET, 'letter': LETTER, 'inverse': INVERSE, 'product': PRODUCT, 'sum': SUM,
-         'scale': SCALE, 'show': SHOW, 'pair': PAIR, 'equal': EQUAL, 'end': END}
+         'scale': SCALE, 'show': SHOW, 'pair': PAIR, 'equal': EQUAL, 'trace': TRACE, 'end': END}
 NAMES = {code: name for name, code in CODES.items()}
 FORMS = {name: ' '.join([name, *map(str.upper, OPERANDS[code])]) for name, code in CODES.items()}
 FORMS |= {'letters': 'letters R I I ..', 'bytes': 'bytes BYTE BYTE ..'}

@@ -1,5 +1,5 @@
 """Document 01's sections "Elements and their product" and "The count": cases, edges, and the two methods; document 02's inverse
-letters and pairing."""
+letters, pairing and trace."""
 import random
 import unittest
 from math import factorial, prod
@@ -8,6 +8,9 @@ from reference import algebra as a
 from reference import permutations as p
 from reference.nested import Nested, blocks
 from reference.tests.support import ODD, PARAMETERS, random_element, refused
+
+# z = 0 and 1 are edges
+ZS = 0, 1, 5, a.WORD - 1, 0xC2B2_AE3D_27D4_EB4F
 
 
 def word_basis(m, word):
@@ -205,6 +208,77 @@ class Pairings(unittest.TestCase):
                 self.assertEqual(a.pairing(m, q, ones, ones), due)
 
 
+class Traces(unittest.TestCase):
+    def test_rank_0(self):
+        """The coefficient, whatever q and z."""
+        for q in PARAMETERS:
+            for z in ZS:
+                self.assertEqual(a.trace(0, q, z, [7]), 7)
+
+    def test_rank_1_by_hand(self):
+        """Block 1 is b, and a(0, 0) is empty: a + z b, whatever q."""
+        for q in PARAMETERS:
+            for z in ZS:
+                self.assertEqual(a.trace(1, q, z, [4, 7]), (4 + 7 * z) % a.WORD)
+        self.assertEqual(a.trace(1, 3, 5, [2, 3]), 17)
+
+    def test_rank_2_by_hand(self):
+        """Places 0 to 5 are T of 1, s_1, s_2, s_1 s_2, s_2 s_1 and s_1 s_2 s_1. Block 1 is as it is, block 2 goes through T_1: for the last
+        this is T_1 T_1 = (q - 1) T_1 + q, of trace (q - 1) z + q."""
+        for q in PARAMETERS:
+            for z in ZS:
+                due = 1, z, z, z * z, z * z, z * ((q - 1) * z + q)
+                self.assertEqual([a.trace(2, q, z, a.basis(w)) for w in a.permutations(2)], [x % a.WORD for x in due])
+        self.assertEqual(a.trace(2, 3, 5, [10 ** k for k in range(6)]), 1 + 50 + 500 + 25_000 + 250_000 + 6_500_000)
+
+    def test_unit(self):
+        for m in range(7):
+            for q in PARAMETERS:
+                for z in ZS:
+                    self.assertEqual(a.trace(m, q, z, a.unit(m)), 1)
+
+    def test_linear(self):
+        source = random.Random(19)
+        for m in range(6):
+            for q in PARAMETERS:
+                h, g = random_element(source, m), random_element(source, m)
+                c, z = source.randrange(a.WORD), source.choice([*ZS, source.randrange(a.WORD)])
+                both = (a.trace(m, q, z, h) + c * a.trace(m, q, z, g)) % a.WORD
+                self.assertEqual(a.trace(m, q, z, a.add(h, a.scale(c, g))), both)
+
+    def test_added_strand(self):
+        """tr(x T_m y) = z tr(xy) for x and y of rank m - 1. Their product has the same trace at rank m."""
+        source = random.Random(20)
+        for m in range(1, 5):
+            for q in PARAMETERS:
+                x, y = random_element(source, m - 1), random_element(source, m - 1)
+                above = [h + [0] * (a.size(m) - a.size(m - 1)) for h in (x, y)]
+                crossed = a.product(m, q, a.times_generator(m, q, above[0], m), above[1])
+                for z in ZS:
+                    below = a.trace(m - 1, q, z, a.product(m - 1, q, x, y))
+                    self.assertEqual(a.trace(m, q, z, a.product(m, q, *above)), below)
+                    self.assertEqual(a.trace(m, q, z, crossed), z * below % a.WORD)
+
+    def test_added_strand_crossed_the_other_way(self):
+        """With the inverse of T_m, which is q' T_m + q' - 1, the factor is q' z + q' - 1."""
+        source = random.Random(21)
+        for m in range(1, 5):
+            for q in ODD:
+                x, z = random_element(source, m - 1), source.randrange(a.WORD)
+                above, inverse = x + [0] * (a.size(m) - a.size(m - 1)), pow(q, -1, a.WORD)
+                due = (inverse * z + inverse - 1) * a.trace(m - 1, q, z, x) % a.WORD
+                self.assertEqual(a.trace(m, q, z, a.act(m, q, above, [-m])), due)
+
+    def test_different_generators(self):
+        """A product of different generators, in any order, has the trace z to the power of their number."""
+        source = random.Random(22)
+        for m in range(1, 6):
+            for _ in range(8):
+                word = source.sample(range(1, m + 1), source.randint(1, m))
+                for q in (3, 2):
+                    self.assertEqual(a.trace(m, q, 5, a.act(m, q, a.unit(m), word)), 5 ** len(word))
+
+
 class Inverses(unittest.TestCase):
     def test_inverse_of_t_1(self):
         """At q = 3 the inverse of T_1 is a T_1 + a - 1, where 3 a = 2^65 + 1."""
@@ -288,12 +362,16 @@ class Calls(unittest.TestCase):
         self.assertEqual(a.call_act(2, 3, h, [1, 1, 2]), 27)
         self.assertEqual(h, a.act(2, 3, [1, 2, 3, 4, 5, a.WORD - 1], [1, 1, 2]))
         self.assertEqual(a.call_pairing(2, 3, [1, 2, 3, 4, 5, 6], g), 6 + 3 * (10 + 12) + 9 * (4 * 2 + 5 * 3) + 27 * 6)
+        scratch = [9] * 50
+        self.assertEqual(a.call_trace(2, 3, 5, g, scratch), 6 + 5 * (5 + 4) + 25 * (3 + 2) + 65 * 1)
+        self.assertEqual((g, scratch), ([6, 5, 4, 3, 2, 1], [0] * 48 + [9] * 2))
 
     def test_rank_0(self):
         h, result = [5], [9]
         self.assertEqual(a.call_act(0, 3, h, []), 0)
         self.assertEqual((a.call_product(0, 3, h, [7], result, [9] * 6), result), (1, [35]))
         self.assertEqual(a.call_pairing(0, 3, h, [7]), 35)
+        self.assertEqual((a.call_trace(0, 3, 9, h, scratch := [9] * 7), scratch), (5, [0] * 6 + [9]))
 
     def test_rank_6(self):
         size = a.size(6)
@@ -303,6 +381,9 @@ class Calls(unittest.TestCase):
         self.assertEqual(a.call_product(6, 3, h, a.unit(6), result, scratch), 99518160)
         self.assertEqual((result, scratch), (h, [0] * (12 * size)))
         self.assertEqual(a.call_pairing(6, 3, h, a.unit(6)), h[0])
+        scratch = [9] * (12 * size + 1)
+        self.assertEqual(a.call_trace(6, 3, 0, h, scratch), h[0])
+        self.assertEqual(scratch, [0] * (12 * size) + [9])
 
     def test_4096_letters(self):
         h = [1, 0]
@@ -324,6 +405,8 @@ class Refusals(unittest.TestCase):
             for lists in (([], []), ([9], [9]), ([9] * 5040, [9] * 5041)):
                 with refused(self, 1, 0, *lists):
                     a.call_pairing(m, 0, *lists)
+                with refused(self, 1, 0, *lists):
+                    a.call_trace(m, 0, 5, *lists)
 
     def test_2_element(self):
         for wrong in ([], [1], [1] * 3):
@@ -343,12 +426,18 @@ class Refusals(unittest.TestCase):
             for lists in ((wrong, [3, 4]), ([1, 2], wrong), (wrong, wrong), (wrong, [9] * 4)):
                 with refused(self, 2, 0, *lists):
                     a.call_pairing(1, 3, *lists)
+            for scratch in ([9] * 14, [9] * 13, []):
+                with refused(self, 2, 0, wrong, scratch):
+                    a.call_trace(1, 3, 5, wrong, scratch)
 
     def test_3_scratch(self):
         for m, short in ((0, 5), (1, 13), (2, 47)):
             h = [1] * a.size(m)
             with refused(self, 3, 0, result := [9] * a.size(m), scratch := [9] * short):
                 a.call_product(m, 3, h, h, result, scratch)
+            for few in (short, short - 1, 0):
+                with refused(self, 3, 0, h, scratch := [9] * few):
+                    a.call_trace(m, 3, 5, h, scratch)
 
     def test_4_word(self):
         for word, place in (([0], 0), ([1, 3], 1), ([1, 2, 0, 9], 2), ([0] * 4097, 4096), ([1] * 4095 + [3], 4095)):

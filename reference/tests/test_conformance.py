@@ -12,8 +12,10 @@ from time import monotonic
 from unittest.mock import patch
 
 from reference import sheet as s
-from reference.algebra import WORD, lengths_and_inverses, mirror, size
+from reference.algebra import WORD, act, lengths_and_inverses, mirror, size
 from reference.conformance import PARAMETERS, strangers
+from reference.nested import blocks
+from reference.permutations import cycle
 from reference.refusals import Refused
 from reference.sheet_cases import END, EXAMPLE, command
 
@@ -34,6 +36,21 @@ DOCUMENT = {
 
 # document 02, Ticket 2: T of s_1 s_2 paired with itself, and with T of s_2 s_1
 PAIRINGS = {'pairing_of_s_1_s_2_with_itself_and_with_s_2_s_1_at_q_2': 'H 2 2\nP 0\nP 4\nN 0\n'}
+
+# document 02, Ticket 4, by hand: a + z b at rank 1; 1, z, z, z^2, z^2 and z ((q - 1) z + q) at rank 2; a strand more is z times as much, and
+# with the inverse of T_m it is (z + 1 - q) / q times as much: 2 (6 + 7 z) with q = 3 and z = 8
+TRACES = {
+    'trace_of_6_and_7_at_q_3_z_5': 'H 1 3\nT 41\nN 0\n',
+    'trace_at_q_2_to_63_rank_1': 'H 1 9223372036854775808\nT 41\nN 0\n',
+    'trace_of_each_basis_element_rank_2': 'H 2 3\nT 1\nT 5\nT 5\nT 25\nT 25\nT 65\nN 0\n',
+    'trace_each_basis_element_in_one_number_rank_2': 'H 2 3\nT 6775551\nN 0\n',
+    'trace_of_the_unit_rank_5': 'H 5 3\nT 1\nN 0\n',
+    'trace_trefoil_on_two_strands': 'H 1 3\nT 41\nN 9\n',
+    'trace_trefoil_on_three_strands': 'H 2 3\nT 205\nN 36\n',
+    'trace_of_a_strand_added_the_other_way_rank_2': 'H 2 3\nT 124\nN 36\n',
+    'trace_of_a_chain_of_each_letter_rank_5': 'H 5 3\nT 3125\nN 5400\n',
+    'trace_wraps': 'H 1 3\nT 4294967295\nN 0\n',
+}
 
 
 def commands_of(sheet):
@@ -111,6 +128,7 @@ class Files(Kit):
     def test_document(self):
         self.assertEqual({name: self.texts[f'document_{name}'] for name in DOCUMENT}, DOCUMENT)
         self.assertEqual({name: self.texts[name] for name in PAIRINGS}, PAIRINGS)
+        self.assertEqual({name: self.texts[name] for name in TRACES}, TRACES)
 
     def test_refusals_are_those_of_the_names_and_of_the_table(self):
         for name, found in self.faults.items():
@@ -122,7 +140,7 @@ class Files(Kit):
         for name, commands in self.valid.items():
             lines = self.texts[name].splitlines()
             self.assertEqual(lines[0], 'H {m} {q}'.format(**commands[0].operands))
-            for letter, code in (('R', s.SHOW), ('P', s.PAIR), ('Q', s.EQUAL)):
+            for letter, code in (('R', s.SHOW), ('P', s.PAIR), ('Q', s.EQUAL), ('T', s.TRACE)):
                 self.assertEqual(sum(line[0] == letter for line in lines), sum(one.code == code for one in commands), name)
             self.assertRegex(lines[-1], r'^N \d+$')
 
@@ -248,6 +266,76 @@ class Pairings(Kit):
         self.assertEqual(found, set(RANKS))
 
 
+class Traces(Kit):
+    def told(self, changed):
+        """The rank of each sheet whose text is another where the trace is changed."""
+        found = set()
+        for name, commands in self.valid.items():
+            if any(one.code == s.TRACE for one in commands):
+                with patch('reference.algebra.trace', changed):
+                    if s.printed(self.sheets[name]) != self.texts[name]:
+                        found.add(commands[0].operands['m'])
+        return found
+
+    def changed_trace(self, factor=lambda m, z: z, word=cycle, first=1):
+        """The trace with another factor of the blocks, another word that acts on them, or blocks counted from another."""
+        def changed(m, q, z, h):
+            if m == 0:
+                return h[0]
+            parts = blocks(h, size(m - 1))
+            turned = (act(m - 1, q, parts[k], word(m - 1, k - 1)) for k in range(first, m + 1))
+            return (changed(m - 1, q, z, parts[0]) + factor(m, z) * sum(changed(m - 1, q, z, g) for g in turned)) % WORD
+        return changed
+
+    def test_the_trace_itself_is_not_told(self):
+        self.assertEqual(self.told(self.changed_trace()), set())
+
+    def test_the_factor_is_told(self):
+        """Left out, and at the highest rank alone."""
+        self.assertEqual(self.told(self.changed_trace(factor=lambda m, z: 1)), set(RANKS[1:]))
+        for rank in RANKS[1:]:
+            self.assertLessEqual({rank}, self.told(self.changed_trace(factor=lambda m, z: z * z if m == rank else z)))
+
+    def test_the_word_is_told(self):
+        """Left out, one letter short at either end, or read backwards, wherever there is such a word."""
+        self.assertEqual(self.told(self.changed_trace(word=lambda j, k: [])), set(RANKS[2:]))
+        self.assertEqual(self.told(self.changed_trace(word=lambda j, k: cycle(j, k)[1:])), set(RANKS[2:]))
+        self.assertEqual(self.told(self.changed_trace(word=lambda j, k: cycle(j, k)[:-1])), set(RANKS[2:]))
+        self.assertEqual(self.told(self.changed_trace(word=lambda j, k: cycle(j, k)[::-1])), set(RANKS[3:]))
+
+    def test_the_first_block_is_told(self):
+        self.assertEqual(self.told(self.changed_trace(first=2)), set(RANKS[1:]))
+
+    def test_a_strand_added_at_each_rank(self):
+        """The traces of xy and of x T_m y, for x and y of rank m - 1: the second is z times the first."""
+        found = set()
+        for name, commands in self.valid.items():
+            if [one.code for one in commands[-6:]] == [s.PRODUCT, s.LETTER, s.PRODUCT, s.TRACE, s.TRACE, s.END]:
+                below, above = (int(line[2:]) for line in self.texts[name].splitlines() if line[0] == 'T')
+                z, m = commands[-2].operands['z'], commands[0].operands['m']
+                self.assertEqual(above, z * below % WORD)
+                self.assertEqual({one.operands['index'] < factorial(m) for one in commands if one.code == s.SET}, {True})
+                found.add(m)
+        self.assertEqual(found, set(RANKS[1:]))
+
+    def test_each_parameter(self):
+        """Each q, and for z the edges, which give different traces of one element."""
+        found = {(commands[0].operands['q'], one.operands['z']): self.texts[name].splitlines()[1] for name, commands in self.valid.items()
+                 for one in commands if name.startswith('trace_at_') and one.code == s.TRACE and commands[0].operands['m'] == 3}
+        self.assertLessEqual(set(PARAMETERS.values()), {q for q, _ in found})
+        at_3 = {z: text for (q, z), text in found.items() if q == 3}
+        self.assertLessEqual({0, 1, 2, 2 ** 32, 2 ** 63, WORD - 1}, set(at_3))
+        self.assertEqual(len({at_3[z] for z in (0, 1, 2, 2 ** 32, 2 ** 63, WORD - 1)}), 6)
+
+    def test_count_nothing(self):
+        """A sheet without its traces has the same last line."""
+        for name, commands in self.valid.items():
+            others = [one for one in commands if one.code != s.TRACE]
+            if len(others) < len(commands) and commands[0].operands['m'] < 4:
+                text = s.printed(b''.join(command(code, *values.values()) for code, values in others))
+                self.assertEqual(text.splitlines(), [line for line in self.texts[name].splitlines() if line[0] != 'T'])
+
+
 class Edges(Kit):
     def test_sizes(self):
         sizes = {len(sheet) for sheet in self.sheets.values()}
@@ -255,7 +343,7 @@ class Edges(Kit):
         self.assertIn(s.MOST_BYTES, {len(self.sheets[name]) for name in self.valid})
 
     def test_words(self):
-        for code, name in ((s.BEGIN, 'q'), (s.SET, 'v'), (s.SCALE, 'v')):
+        for code, name in ((s.BEGIN, 'q'), (s.SET, 'v'), (s.SCALE, 'v'), (s.TRACE, 'z')):
             words = {word for word, in self.used(code, name)}
             self.assertIn(WORD - 1, words)
             self.assertTrue(any(len(set(word.to_bytes(8, 'little'))) == 8 for word in words))
@@ -267,7 +355,7 @@ class Edges(Kit):
         self.assertLessEqual({str(10 ** k - d) for k in range(1, 20) for d in (0, 1)} | {str(WORD - 1)}, values)
 
     def test_zero_and_both_ends_of_a_register_are_shown(self):
-        self.assertTrue(any(re.search(r'R \d\n[RPQN]', text) for text in self.texts.values()))
+        self.assertTrue(any(re.search(r'R \d\n[RPQTN]', text) for text in self.texts.values()))
         for m in RANKS:
             ends = re.compile(rf'^R \d\n0 .*\n(?:[0-9].*\n)*{size(m) - 1} ' if m else r'^R \d\n0 ', re.MULTILINE)
             self.assertTrue(any(text.startswith(f'H {m} ') and ends.search(text) for text in self.texts.values()), m)

@@ -25,6 +25,10 @@ def scale(r, v):
     return bytes([0x33, r]) + v.to_bytes(8, 'little')
 
 
+def trace(r, z):
+    return bytes([0x43, r]) + z.to_bytes(8, 'little')
+
+
 END = bytes([0])
 
 
@@ -102,6 +106,24 @@ class Commands(unittest.TestCase):
         due = 9 * 2 * 2 + 3 * 3 * 3
         self.assertEqual(s.printed(sheet), f'H 2 3\nP {due}\nP {due}\nN {6 * 9 + 118}\n')
 
+    def test_trace(self):
+        """6 + 7 T_1 with z = 5 at q = 3; z lowest byte first; of all registers; it counts nothing and changes no register."""
+        sheet = begin(1, 3) + put(0, 0, 6) + put(0, 1, 7) + trace(0, 5) + trace(0, 0) + trace(3, 5) + END
+        self.assertEqual(s.printed(sheet), 'H 1 3\nT 41\nT 6\nT 0\nN 0\n')
+        z = 0x0102_0304_0506_0708
+        sheet = begin(1, 0) + put(3, 1, 1) + bytes([0x43, 3, 8, 7, 6, 5, 4, 3, 2, 1, 0x40, 3]) + END
+        self.assertEqual(s.printed(sheet), f'H 1 0\nT {z}\nR 3\n1 1\nN 0\n')
+        sheet = begin(2, 3) + b''.join(put(1, k, 10 ** k) for k in range(6)) + trace(1, 5) + bytes([0x30, 1, 1]) + trace(1, 0) + END
+        self.assertEqual(s.printed(sheet), 'H 2 3\nT 6775551\nT 30\nN 9\n')
+        self.assertEqual(s.run(sheet).registers, s.run(sheet.replace(trace(1, 5), b'')).registers)
+
+    def test_trace_of_a_strand_added(self):
+        """The braid 1 1 1 of two strands, as one of three too, and with the letter 2 on top: the last trace is z times the others."""
+        for m, word, due in ((1, (1, 1, 1), 41), (2, (1, 1, 1), 41), (2, (1, 1, 1, 2), 205), (3, (1, 1, 1, 2, 3), 1025)):
+            letters = b''.join(bytes([0x30, 2, i]) for i in word)
+            sheet = begin(m, 3) + bytes([0x20, 2]) + letters + trace(2, 5) + END
+            self.assertEqual(s.printed(sheet), f'H {m} 3\nT {due}\nN {len(word) * a.letter_count(m)}\n')
+
     def test_unit_and_put_are_not_counted(self):
         self.assertEqual(s.run(begin(3, 2) + bytes([0x20, 0]) + put(1, 2, 3) + END).count, 0)
 
@@ -115,7 +137,7 @@ class Refusals(unittest.TestCase):
     def test_each_command(self):
         start = begin(2, 3)
         cases = [
-            (10, 0, b'\x01'), (10, 0, b'\xff\x00'), (10, 10, start + b'\x35\x00\x01'), (10, 12, start + b'\x20\x00\x43'),
+            (10, 0, b'\x01'), (10, 0, b'\xff\x00'), (10, 10, start + b'\x35\x00\x01'), (10, 12, start + b'\x20\x00\x44'),
             (11, 0, b'\x10'), (11, 0, start[:9]), (11, 0, b'\x20'), (11, 10, start + b'\x21\x00\x00\x00'), (11, 10, start + b'\x10'),
             (12, 0, b'\x00'), (12, 0, b'\x20\x09'), (12, 0, b'\x00\xff'), (12, 10, start + start), (12, 10, start + begin(9, 0)),
             (13, 0, begin(6, 3)), (13, 10, start + b'\x20\x04'), (13, 10, start + put(4, 0, 0)), (13, 10, start + put(0, 6, 0)),
@@ -124,7 +146,9 @@ class Refusals(unittest.TestCase):
             (11, 10, start + b'\x34'), (11, 10, start + b'\x34\x00'), (12, 0, b'\x34\x00\x01'),
             (13, 10, start + scale(4, 0)), (13, 10, start + b'\x40\x04'), (13, 10, begin(0, 3) + b'\x30\x00\x01'),
             (13, 10, begin(0, 3) + b'\x34\x00\x01'),
+            (13, 10, start + trace(4, 0) + END), (13, 10, start + trace(255, 5)), (12, 0, trace(4, 5) + start),
         ]
+        cases += [(11, 10, start + trace(4, 5)[:kept]) for kept in range(1, 10)]
         for code in (0x31, 0x32):
             cases += [(13, 10, start + bytes([code, *operands])) for operands in ((4, 0, 0), (0, 4, 0), (0, 0, 4))]
         for code in (0x41, 0x42):

@@ -31,7 +31,7 @@ class Cases(unittest.TestCase):
     def test_enough(self):
         self.assertGreaterEqual(len(set(self.sheets)), 500)
         self.assertGreaterEqual(len(self.valid), 200)
-        self.assertEqual(len(set(short())), 256 + 256 * 12)
+        self.assertEqual(len(set(short())), 256 + 256 * 13)
 
     def test_the_same_every_time(self):
         self.assertEqual(self.sheets, list(cases()))
@@ -76,6 +76,17 @@ class Cases(unittest.TestCase):
             itself = [(n, w) for w, (n, _) in enumerate(lengths_and_inverses(rank))]
             with patch('reference.algebra.lengths_and_inverses', lambda m: itself):
                 self.assertEqual(s.printed(sheet).splitlines()[1] == texts[0], rank < 2)
+
+    def test_a_strand_added_multiplies_the_trace_by_z(self):
+        """At every rank and q, for four z: of the traces printed in threes the second is z times the first, at rank 0 the first."""
+        for rank in range(s.MOST_RANK + 1):
+            for q in (0, 3, WORD - 1):
+                begin, first = command(s.BEGIN, rank, q), b''.join(command(s.TRACE, r, 0) for r in (2, 3, 0))
+                [sheet] = [x for x in self.sheets if x.startswith(begin) and first in x]
+                zs = [one.operands['z'] for one in s.check(sheet) if one.code == s.TRACE][::3]
+                found = [int(line[2:]) for line in s.printed(sheet).splitlines() if line[0] == 'T']
+                self.assertEqual(len(found), 12)
+                self.assertEqual(found[1::3], [x * z % WORD if rank else x for x, z in zip(found[::3], zs)])
 
     def test_operands_at_and_past_their_bounds(self):
         for rank in range(s.MOST_RANK + 1):

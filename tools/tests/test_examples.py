@@ -14,6 +14,7 @@ from reference.sheet import printed
 from tools.alexander import (closure, combined, described, determinant, digits, identity, image, polynomial, shown, times,
                              value)
 from tools.sheet_text import to_bytes
+from tools.tests.test_traces import STRANDS
 
 ROOT = Path(__file__).resolve().parents[2]
 EXAMPLES = ROOT / 'examples'
@@ -146,13 +147,14 @@ class Polynomials(unittest.TestCase):
         for line in ('5 1', '2 1', '-1 1', '1', '1 2 3', '', 'x', '1 -1', f'1 {WORD}'):
             self.refuses(f'expected "X Y", X from 0 to 1 and {words}, found "{line}"', f'H 1 3\nR 0\n0 1\n{line}\nN 0\n', 0, 0)
         most = WORD - 1
-        self.assertEqual(shown(f'H 5 {most}\nP 7\nR 0\n719 {most}\nR 1\n0 1\nN 0\n'), (5, most, {719: most}))
+        for other in ('R 1\n0 1', 'P 7', 'Q 1', 'T 7'):
+            self.assertEqual(shown(f'H 5 {most}\nP 7\nT 7\nR 0\n719 {most}\n{other}\nN 0\n'), (5, most, {719: most}))
 
 
 class Examples(unittest.TestCase):
     def test_stored(self):
         names = {path.stem for path in EXAMPLES.glob('*.txt')}
-        self.assertEqual(names, set(NAMES))
+        self.assertEqual(names, set(NAMES) | set(STRANDS))
         for name in names:
             text = (EXAMPLES / f'{name}.txt').read_text()
             self.assertEqual(printed(to_bytes(text)), (EXAMPLES / f'{name}.expected').read_text())

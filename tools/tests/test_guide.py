@@ -7,7 +7,8 @@ import unittest
 from itertools import count
 from pathlib import Path
 
-from reference.algebra import letter_count, lengths_and_inverses, pairing, permutations, product_count, size
+from reference.algebra import (act, basis, letter_count, lengths_and_inverses, pairing, permutations, product_count, size, trace,
+                               unit)
 from reference.permutations import call_tower, standard_word, tower
 from reference.refusals import Refused
 from reference.sheet import MOST_BYTES, OPERANDS, check, printed
@@ -114,6 +115,34 @@ class Tables(unittest.TestCase):
         self.assertIn(f'5 at index 17 and 7 at index {other} give 5 · 7 · q^{length}.', sentences)
         first, second = (w for w, (_, v) in enumerate(lengths_and_inverses(2)) if v != w)
         self.assertIn(f'At rank 2 only the indexes {first} and {second}, of s1s2 and s2s1, change places', sentences)
+
+    def test_traces(self):
+        """The table of rank 2, by its formulas and by the reference; the sums and products in sentences; the trefoil by hand."""
+        sentences, q, z = ' '.join(GUIDE.split()), 3, 5
+        formulas = {'1': 1, 'Z': z, 'Z · Z': z * z, 'Z · ((q − 1) · Z + q)': z * ((q - 1) * z + q)}
+        found = re.findall(r'^\| (s[s0-9]+|none) \| (\d) \| ([^|]+) \| (\d+) \|$', GUIDE, re.MULTILINE)
+        words = [''.join(f's{i}' for i in standard_word(tower(w))) or 'none' for w in permutations(2)]
+        traces = [trace(2, q, z, basis(w)) for w in permutations(2)]
+        self.assertEqual([(word, int(index), int(value)) for word, index, _, value in found], list(zip(words, range(6), traces)))
+        self.assertEqual([formulas[formula] for _, _, formula, _ in found], traces)
+        terms = ' + '.join(f'{x} · {10 ** k}' for k, x in enumerate(traces))
+        self.assertIn(f'{terms} = {sum(x * 10 ** k for k, x in enumerate(traces))}.', sentences)
+        first, second = act(1, q, unit(1), [1, 1, 1])
+        self.assertEqual((first, second), (q * (q - 1), q ** 2 - q + 1))
+        two, three = trace(1, q, z, [first, second]), trace(2, q, z, act(2, q, unit(2), [1, 1, 1, 2]))
+        self.assertIn('T_1 T_1 T_1 = q (q − 1) + (q^2 − q + 1) T_1. So the trace is q (q − 1) + (q^2 − q + 1) · Z. '
+                      f'With q = {q} it is {first} + {second} · Z, and with Z = {z} it is {first} + {second} · {z} = {two}:', sentences)
+        self.assertIn(f'the trace Z times as much, {z} · {two} = {three}:', sentences)
+        self.assertIn(f'{two} and {three} belong to one ring.', sentences)
+
+    def test_a_strand_added_the_other_way(self):
+        """The factor a Z + a - 1 at q = 3: 2 with Z = 8, and 1 with Z = 5."""
+        a, other = pow(3, -1, 2 ** 64), act(2, 3, unit(2), [1, 1, 1, -2])
+        for z, factor in ((8, 2), (5, 1)):
+            self.assertEqual((a * z + a - 1) % 2 ** 64, factor)
+            self.assertEqual(trace(2, 3, z, other), factor * (6 + 7 * z))
+        self.assertIn(f'With q = 3 and Z = 8 the factor is 2, and the braid `1 1 1 -2` has the trace 2 · (6 + 7 · 8) = {2 * (6 + 7 * 8)}; '
+                      'with Z = 5 the factor happens to be 1.', ' '.join(GUIDE.split()))
 
     def test_image_lists(self):
         """The lists that come in turn to one buffer, and a refusal as one word."""

@@ -26,6 +26,7 @@ LINES = [
     ('show 3', '40 03'),
     ('pair 1 2', '41 01 02'),
     ('equal 1 2', '42 01 02'),
+    ('trace 1 72623859790382856', '43 01 08 07 06 05 04 03 02 01'),
     ('letters 1 2 3 2', '30 01 02 30 01 03 30 01 02'),
     ('letters 2 1 -2 1 -2', '30 02 01 34 02 02 30 02 01 34 02 02'),
     ('letters 3 -1 -255', '34 03 01 34 03 ff'),
@@ -55,13 +56,16 @@ REFUSALS = [
      '13 at 10: operand out of range: "letter 0 1" has the generator 1, and rank 0 has no generators'),
     (START + '34 00 03 00',
      '13 at 10: operand out of range: "inverse 0 3" has the generator 3, and rank 2 has generators 1 to 2'),
+    (START + '43 00 05 00', '11 at 10: operands cut off: "trace R Z" takes 10 bytes, and the sheet has 4 left'),
+    (START + '43 04 05 00 00 00 00 00 00 00 00',
+     '13 at 10: operand out of range: "trace 4 5" has the register 4, and registers are 0 to 3'),
     (START + '34 00', '11 at 10: operands cut off: "inverse R I" takes 3 bytes, and the sheet has 2 left'),
     (EVEN + '20 00 34 00 02 00', '15 at 12: no inverse: "inverse 0 2" needs an inverse of q, and q is 258, which is even'),
     (START + '00 20', '14 at 11: a byte after the end command: the byte is 0x20'),
     (START + '20 00', '14 at 12: no end command: the sheet stops without one'),
 ]
 
-NAMES = 'expected one of begin, unit, set, letter, inverse, product, sum, scale, show, pair, equal, end, letters, bytes'
+NAMES = 'expected one of begin, unit, set, letter, inverse, product, sum, scale, show, pair, equal, trace, end, letters, bytes'
 WORDS = 'expected a number from -9223372036854775808 to 18446744073709551615'
 LETTERS = 'I: expected a number from -255 to 255'
 INDEXES = 'expected a number from 0 to 65535 or a shortest word such as s1s2'
@@ -94,6 +98,10 @@ BAD_LINES = [
     ('letters 256 -1', 'R: expected a number from 0 to 255, found "256"'),
     ('bytes 0x100', 'BYTE: expected a number from 0 to 255, found "0x100"'),
     ('scale 0 18446744073709551616', f'V: {WORDS}, found "18446744073709551616"'),
+    ('trace 0', 'expected "trace R Z", found "trace 0"'),
+    ('trace 256 5', 'R: expected a number from 0 to 255, found "256"'),
+    ('trace 0 18446744073709551616', f'Z: {WORDS}, found "18446744073709551616"'),
+    ('trace 0 s1', f'Z: {WORDS}, found "s1"'),
     ('begin 2 -9223372036854775809', f'Q: {WORDS}, found "-9223372036854775809"'),
 ]
 BAD_LINES += [(f'set 0 {index} 1', f'INDEX: {INDEXES}, found "{index}"')
@@ -115,6 +123,7 @@ class ToBytes(unittest.TestCase):
         for text, value in (('0x1F', 31), ('007', 7), ('-1', 2 ** 64 - 1), ('-0x10', 2 ** 64 - 16), (str(-2 ** 63), 2 ** 63),
                             (str(2 ** 64 - 1), 2 ** 64 - 1)):
             self.assertEqual(to_bytes(f'scale 2 {text}'), bytes([0x33, 2]) + value.to_bytes(8, 'little'))
+            self.assertEqual(to_bytes(f'trace 2 {text}'), bytes([0x43, 2]) + value.to_bytes(8, 'little'))
         self.assertEqual(to_bytes('letters 0x3 0xff 0'), bytes([0x30, 3, 255, 0x30, 3, 0]))
         self.assertEqual(to_bytes('bytes 1 0x20 255'), bytes([1, 32, 255]))
 
@@ -131,6 +140,12 @@ class ToBytes(unittest.TestCase):
         """Document 02, Ticket 2: T of s_1 s_2 paired with itself, and with T of s_2 s_1."""
         sheet = to_bytes('begin 2 2\nset 0 s1s2 1\nset 1 s2s1 1\npair 0 0\npair 0 1\nend')
         self.assertEqual(printed(sheet), 'H 2 2\nP 0\nP 4\nN 0\n')
+
+    def test_trace_of_each_word(self):
+        """Document 02, Ticket 4, by hand: with q = 3 and z = 5 the basis elements of rank 2 have 1, 5, 5, 25, 25 and 65."""
+        sets = ''.join(f'set 0 {index} {10 ** k}\n' for k, index in enumerate(('0', 's1', 's2', 's1s2', 's2s1', 's1s2s1')))
+        self.assertEqual(printed(to_bytes(f'begin 2 3\n{sets}trace 0 5\ntrace 0 -1\nend')),
+                         f'H 2 3\nT 6775551\nT {1 - 110 + 11000 - 100000 + 2 ** 64}\nN 0\n')
 
     def test_bad_lines(self):
         for line, wrong in BAD_LINES:
@@ -206,8 +221,8 @@ class InWords(unittest.TestCase):
     def test_summary(self):
         self.assertEqual(summary(EXAMPLE), 'passes its check: rank 1, q 3, commands 6, ring operations 6')
         sheet = to_bytes('begin 2 -1\nletters 0 1 -2 1\nproduct 0 0 0\nsum 1 0 0\nscale 1 5\nunit 3\nset 3 5 5\n'
-                         'pair 0 1\nequal 0 1\nshow 0\nend')
-        self.assertEqual(summary(sheet), 'passes its check: rank 2, q 18446744073709551615, commands 13, '
+                         'pair 0 1\nequal 0 1\nshow 0\ntrace 0 5\nend')
+        self.assertEqual(summary(sheet), 'passes its check: rank 2, q 18446744073709551615, commands 14, '
                                          f'ring operations {3 * 9 + 118 + 6 + 6}')
 
 

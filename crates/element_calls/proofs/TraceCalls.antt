@@ -94,9 +94,11 @@ module _ (m q z : ℕ) (hq : q < wordModulus) (hz : z < wordModulus) where
     markov-lawful = record {
       markov = λ x y r₁ s₁ r₂ s₂ r₃ s₃ scratch scratch' a b c₁ n₁ c₂ n₂ c₃ n₃ n' n.
           let first = up .product _ _ (embedded a) last in
-          rw (product-gives (suc m) q rank hq _ _ r₁ s₁ (embedded a) last c₁ n₁,
-          product-gives (suc m) q rank hq _ _ r₂ s₂ first (embedded b) c₂ n₂,
-          product-gives m q low hq x y r₃ s₃ a b c₃ n₃)
+          rw (
+            product-gives (suc m) q rank hq _ _ r₁ s₁ (embedded a) last c₁ n₁,
+            product-gives (suc m) q rank hq _ _ r₂ s₂ first (embedded b) c₂ n₂,
+            product-gives m q low hq x y r₃ s₃ a b c₃ n₃,
+          )
           (gives' scratch' (up .product _ _ first (embedded b)) n' ∙ L .markov x y a b
           ∙ sym (ap (words .mul z) (gives low scratch (C m q low hq .product x y a b) n)));
     }

@@ -2,14 +2,15 @@
 // The stored input and output are made by the reference program.
 //
 // A call is a byte: 1 for sum, 2 for scaling, 3 for the action of a word, 5 for that of a word of signed letters, 6 for a pairing,
-// and any other for a product; the rank in a byte; the word q or c; two lists of words; the word of letters; and the sizes of the
-// lent result and scratch. A list is its size and then its words, or letters. A size is two bytes, a word eight, the lowest byte
-// first; a signed letter is a byte by two's complement. A word action changes the first list, and a pairing nothing. Each word of
-// the result and the scratch is 170 before the call.
+// 7 for a trace, and any other for a product; the rank in a byte; the word q or c; two lists of words; the word of letters; and
+// the sizes of the lent result and scratch. A list is its size and then its words, or letters. A size is two bytes, a word eight,
+// the lowest byte first; a signed letter is a byte by two's complement. A word action changes the first list, a pairing nothing,
+// and a trace the scratch alone; the z of a trace is the first word of the second list, or 0 where that is empty. Each word of the
+// result and the scratch is 170 before the call.
 //
-// A line is A and the count, or the value of a pairing, or E with the number, the place and the count or value of the refusal,
-// which is 0; then the slice that the call writes; for a product also the digest of the scratch. A slice of over 120 words is
-// written as its digest.
+// A line is A and the count, or the value of a pairing or a trace, or E with the number, the place and the count or value of the
+// refusal, which is 0; then the slice that the call writes; for a product and a trace also the digest of the scratch. A slice of
+// over 120 words is written as its digest.
 //
 // The program ends where the input does. It also ends, with no line, at a call that is cut off, and at one with more than 5,041
 // words in a list or the result, 4,097 letters or 60,500 words of scratch.

@@ -1,4 +1,5 @@
 -- the definitions, computed
+pub mod Vectors
 pub mod Agreement
 -- the elements of a rank as a type
 pub mod Lengths

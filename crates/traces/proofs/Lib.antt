@@ -4,3 +4,4 @@ mod Gathering
 mod Turning
 mod Lowering
 mod LevelByLevel
+mod CallDone

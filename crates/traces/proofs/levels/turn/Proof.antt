@@ -37,9 +37,11 @@ fits c =
 loop-again : tie.Need-loop-again Inv-loop μ-loop
 loop-again c =
     let after = c .before .before in let at = after .before .before .before in let u = start at .args in
-    let letter = getD-cycle (u .m) (u .l) (at .loop .i) (omega arith) in
-    (omega arith, acting-more (omega (arith, length-cycle (u .m) (u .l))) (at .loop .inv .1)
-    (after .letter .ensures ∙ letter-fits _ _ (fits (after .before .before)) ∙ ap (λ (j : ℕ). lettered Forward (u .p) (u .m) j (at .loop .x)) (sym letter)))
+    let letter = getD-cycle (u .m) (u .l) (at .loop .i) (omega arith) in (
+      omega arith,
+      acting-more (omega (arith, length-cycle (u .m) (u .l))) (at .loop .inv .1)
+          (after .letter .ensures ∙ letter-fits _ _ (fits (after .before .before)) ∙ ap (λ (j : ℕ). lettered Forward (u .p) (u .m) j (at .loop .x)) (sym letter)),
+    )
 
 same-length : tie.Need-same-length Inv-loop μ-loop
 same-length c = c .before .loop .inv .1 .size ∙ sym (start (c .before) .pre .size)
