@@ -12,7 +12,7 @@ use Rattle.sheet_format.specs.Format.{begun}
 use Rattle.sheet_format.specs.declared.Update.{Update}
 use Rattle.sheet_format.specs.declared.Update.the-variants as U
 use Rattle.sheet_format.specs.declared.Query.{Query}
-use Rattle.sheet_format.specs.declared.Query.the-variants.{Register, Pairing, Equality}
+use Rattle.sheet_format.specs.declared.Query.the-variants.{Register, Pairing, Equality, Trace}
 use Rattle.sheet_format.specs.declared.Command.{Command}
 use Rattle.sheet_format.specs.declared.Command.the-variants.{End, Begin, Change, Show}
 use Rattle.operands.specs.Operands.{isRegister, updateInRange, queryInRange, operandsInRange, inRange}
@@ -48,6 +48,7 @@ unfolding queryInRange isRegister
 query (Register r) e = omega (arith, less-true _ _ e)
 query (Pairing a b) e = omega (arith, two e)
 query (Equality a b) e = omega (arith, two e)
+query (Trace r z) e = omega (arith, less-true _ _ e)
 
 operands : (m : ℕ) (c : Command) → m ≤ 5 → operandsInRange m c ≡ true → Bounds m c
 unfolding operandsInRange
@@ -88,6 +89,7 @@ unfolding queryInRange isRegister
 query-in (Register r) h = less-yes h
 query-in (Pairing a b) h = rw (less-yes (h .0), less-yes (h .1)) refl
 query-in (Equality a b) h = rw (less-yes (h .0), less-yes (h .1)) refl
+query-in (Trace r z) h = less-yes h
 
 operands-in : (m : ℕ) (c : Command) → (Begins c → begun c .rank ≡ m) → Bounds m c → operandsInRange m c ≡ true
 unfolding operandsInRange

@@ -1,4 +1,4 @@
--- The bounds of a command's operands, in the words of document 01 ("Run sheets") and of document 02, Ticket 1.
+-- The bounds of a command's operands, in the words of document 01 ("Run sheets") and of document 02, Tickets 1 and 4.
 --
 --   Begins c                          c is a begin command
 --   UpdateBounds m u, QueryBounds w   registers are 0 to 3; in a sheet of rank m an index is below M = (m + 1)!, and a letter is from 1 to m
@@ -8,7 +8,7 @@ use Rattle.lists.specs.Numbers.{factorial}
 use Rattle.sheet_format.specs.declared.Update.{Update}
 use Rattle.sheet_format.specs.declared.Update.the-variants as U
 use Rattle.sheet_format.specs.declared.Query.{Query}
-use Rattle.sheet_format.specs.declared.Query.the-variants.{Register, Pairing, Equality}
+use Rattle.sheet_format.specs.declared.Query.the-variants.{Register, Pairing, Equality, Trace}
 use Rattle.sheet_format.specs.declared.Command.{Command}
 use Rattle.sheet_format.specs.declared.Command.the-variants.{End, Begin, Change, Show}
 
@@ -31,6 +31,7 @@ abbrev pub QueryBounds : Query → Type 0
 QueryBounds (Register r) = r < 4
 QueryBounds (Pairing a b) = (a < 4) × (b < 4)
 QueryBounds (Equality a b) = (a < 4) × (b < 4)
+QueryBounds (Trace r z) = r < 4
 
 abbrev pub Bounds : ℕ → Command → Type 0
 Bounds m End = Unit {0}

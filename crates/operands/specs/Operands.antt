@@ -1,4 +1,4 @@
--- What is judged of one command of a sheet (document 01, "Where each thing is checked", and document 02, Ticket 1).
+-- What is judged of one command of a sheet (document 01, "Where each thing is checked", and document 02, Tickets 1 and 4).
 --
 --   isRegister r                  r is one of the four registers
 --   updateInRange m u, queryInRange w   the operands are in range in a sheet of rank m
@@ -17,7 +17,7 @@ use Rattle.sheet_format.specs.declared.Header.{Header}
 use Rattle.sheet_format.specs.declared.Update.{Update}
 use Rattle.sheet_format.specs.declared.Update.the-variants.{Unit, Set, Letter, InverseLetter, Product, Sum, Scale}
 use Rattle.sheet_format.specs.declared.Query.{Query}
-use Rattle.sheet_format.specs.declared.Query.the-variants.{Register, Pairing, Equality}
+use Rattle.sheet_format.specs.declared.Query.the-variants.{Register, Pairing, Equality, Trace}
 use Rattle.sheet_format.specs.declared.Command.{Command}
 use Rattle.sheet_format.specs.declared.Command.the-variants.{End, Begin, Change, Show}
 
@@ -37,6 +37,7 @@ unfoldable pub queryInRange : Query → Bool
 queryInRange (Register r) = isRegister r
 queryInRange (Pairing a b) = isRegister a && isRegister b
 queryInRange (Equality a b) = isRegister a && isRegister b
+queryInRange (Trace r z) = isRegister r
 
 unfoldable pub operandsInRange : ℕ → Command → Bool
 operandsInRange m End = true

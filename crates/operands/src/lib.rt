@@ -51,6 +51,7 @@ fn query_in_range(query: Query) -> bool
         Query::Register(r) => r < 4,
         Query::Pairing(a, b) => two_registers(a, b),
         Query::Equality(a, b) => two_registers(a, b),
+        Query::Trace(r, _) => r < 4,
     }
 }
 

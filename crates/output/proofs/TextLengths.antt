@@ -3,7 +3,7 @@
 use mathlib.Core.Path.{_≡_, refl}
 use mathlib.Core.Bool.{true}
 use mathlib.Core.List.{List, [], _∷_}
-use Prim.Native.Nat.{ℕ, suc, _+_, _^_, _≤_, _<_}
+use Prim.Native.Nat.{ℕ, zero, suc, _+_, _^_, _≤_, _<_}
 use native.Mathlib.Nat.{mod-lt}
 use native.Mathlib.Omega.{arith}
 use lib.ListN.{length, length-append}
@@ -12,10 +12,12 @@ use Rattle.ring.specs.Modular.{words, modular}
 use Rattle.lists.specs.Lists.{bit, All, equal}
 use Rattle.lists.specs.Numbers.{factorial}
 use Rattle.lists.proofs.All.{all-getD}
+use Rattle.algebra.specs.Product.{minusOne}
 use Rattle.algebra.specs.Pairing.{pairing}
+use Rattle.markov_trace.specs.Trace.{trace}
 use Rattle.sheet_format.specs.declared.Header.{Header}
 use Rattle.sheet_format.specs.declared.Query.{Query}
-use Rattle.sheet_format.specs.declared.Query.the-variants.{Register, Pairing, Equality}
+use Rattle.sheet_format.specs.declared.Query.the-variants.{Register, Pairing, Equality, Trace}
 use Rattle.sheet_format.specs.declared.Command.{Command}
 use Rattle.sheet_format.specs.declared.Command.the-variants.{End, Begin, Change, Show}
 use Rattle.operands.specs.Operands.{inRange}
@@ -41,6 +43,12 @@ pairing-word : (q m : ℕ) (a b : List ℕ) → Word (pairing ℕ words q m a b)
 unfolding pairing
 pairing-word q m a b = sum-word _ _
 
+trace-word : (q r z m : ℕ) (h : List ℕ) → All Word h → Word (trace ℕ words q r z m h)
+unfolding trace modular
+trace-word q r z zero [] a = omega arith
+trace-word q r z zero (x ∷ h) a = a .0
+trace-word q r z (suc m) h a = mod-lt _ (omega arith)
+
 module _ {m : ℕ} {x : List ℕ} (z : Registers m (factorial (suc m)) x) {r : ℕ} (four : r < 4) where
   show-short : All Word x → length (coefficients 0 (element m r x)) ≤ 18000
   show-short a =
@@ -57,6 +65,9 @@ module _ (h : Header) {x : List ℕ} (z : Registers (h .rank) (factorial (suc (h
   shown-short (Pairing g k) w =
       omega (arith, line-short 80 (pairing ℕ words (h .q) (h .rank) (at g) (at k)) (pairing-word (h .q) (h .rank) (at g) (at k)))
   shown-short (Equality g k) w = let b = equal (at g) (at k) in omega (arith, line-short 81 (bit b) (bit-small b))
+  shown-short (Trace r y) four =
+      let e = words-element z four (λ i l. all-getD Word x i 0 l a) in
+      omega (arith, line-short 84 _ (trace-word (h .q) (minusOne ℕ words (h .q)) y (h .rank) (at r) (e .each)))
 
 module _ (h : Header) where
   pub text-short : (c : Command) (x : State) → inRange (h .rank) c ≡ true → length (x .contents) ≡ 2880 → All (λ n. n < 2 ^ 64) (x .contents)

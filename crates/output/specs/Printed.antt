@@ -1,4 +1,4 @@
--- What the program prints (document 01, "Run sheets").
+-- What the program prints (document 01, "Run sheets", and document 02, Ticket 4).
 --
 --   shown h w x              what a query prints, with the registers x, in a sheet with the header h
 --   text h c x               what a command prints, with the state before it
@@ -23,11 +23,13 @@ use Rattle.refusals.specs.Refusals.{refusalNumber, refusalPlace, Outcome}
 use Rattle.refusals.specs.declared.Refusal.{Refusal}
 use Rattle.refusals.specs.declared.Verdict.{Verdict}
 use Rattle.refusals.specs.declared.Verdict.the-variants.{Accepted, Refused}
+use Rattle.algebra.specs.Product.{minusOne}
 use Rattle.algebra.specs.Pairing.{pairing}
+use Rattle.markov_trace.specs.Trace.{trace}
 use Rattle.sheet_format.specs.Format.{decode, header}
 use Rattle.sheet_format.specs.declared.Header.{Header}
 use Rattle.sheet_format.specs.declared.Query.{Query}
-use Rattle.sheet_format.specs.declared.Query.the-variants.{Register, Pairing, Equality}
+use Rattle.sheet_format.specs.declared.Query.the-variants.{Register, Pairing, Equality, Trace}
 use Rattle.sheet_format.specs.declared.Command.{Command}
 use Rattle.sheet_format.specs.declared.Command.the-variants.{End, Begin, Change, Show}
 use Rattle.sheet_format.specs.declared.Decoded.{Decoded}
@@ -40,11 +42,12 @@ use Rattle.runner.specs.Turn.{state}
 use Rattle.runner.specs.declared.Cursor.{Cursor}
 use Rattle.output.specs.Text.{line, taggedPair, coefficients, textRoom, errorRoom}
 
--- the letters E, H, N, P, Q and R are 69, 72, 78, 80, 81 and 82
+-- the letters E, H, N, P, Q, R and T are 69, 72, 78, 80, 81, 82 and 84
 unfoldable pub shown : Header → Query → List ℕ → List ℕ
 shown h (Register r) x = line 82 r ++ coefficients 0 (element (h .rank) r x)
 shown h (Pairing a b) x = line 80 (pairing ℕ words (h .q) (h .rank) (element (h .rank) a x) (element (h .rank) b x))
 shown h (Equality a b) x = line 81 (bit (equal (element (h .rank) a x) (element (h .rank) b x)))
+shown h (Trace r z) x = line 84 (trace ℕ words (h .q) (minusOne ℕ words (h .q)) z (h .rank) (element (h .rank) r x))
 
 unfoldable pub text : Header → Command → State → List ℕ
 text h End x = line 78 (x .count)

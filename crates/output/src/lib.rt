@@ -5,7 +5,7 @@ ghost use mathlib.Core.Bool.{true};
 ghost use Prim.Native.Nat.{_≤_, _<_};
 ghost use lib.ListN.{length};
 ghost use Rattle.sheet_format.specs.declared.Command.the-variants.{Show};
-ghost use Rattle.sheet_format.specs.declared.Query.the-variants.{Register, Pairing, Equality};
+ghost use Rattle.sheet_format.specs.declared.Query.the-variants.{Register, Pairing, Equality, Trace};
 ghost use Rattle.operands.specs.Operands.{inRange};
 ghost use Rattle.output.specs.Text.{textRoom};
 ghost use Rattle.output.specs.Printed.{shown, text, inRangeText, textCall, errorCall};
@@ -64,6 +64,18 @@ fn put_equality(buffer: &mut [u8], x: &[u64], header: Header, a: usize, b: usize
     lines::put_line(buffer, 81, same as u64)
 }
 
+fn put_trace(buffer: &mut [u8], x: &[u64], header: Header, r: usize, z: u64) -> usize
+    requires { ⌜ Shown (header .rank) (now x) (now buffer) × (r < 4) ⌝ }
+    ensures { λ n. ⌜ Overwritten 0 (shown header (Trace r z) (now (x .entry))) (now (buffer .entry)) (now (buffer .exit)) n ⌝ }
+{
+    let rank = header.rank;
+    let size = ranks::size(rank);
+    let from = 720 * r;
+    let mut scratch = [0u64; 7920];
+    let traced = traces::trace(rank, header.q, z, &x[from..from + size], &mut scratch);
+    lines::put_line(buffer, 84, traced.value)
+}
+
 // What a query in range shows.
 fn put_shown(buffer: &mut [u8], x: &[u64], header: Header, query: Query) -> usize
     requires { ⌜ Shown (header .rank) (now x) (now buffer) × (inRange (header .rank) (Show query) ≡ true) ⌝ }
@@ -73,6 +85,7 @@ fn put_shown(buffer: &mut [u8], x: &[u64], header: Header, query: Query) -> usiz
         Query::Register(r) => put_register(buffer, x, header, r),
         Query::Pairing(a, b) => put_pairing(buffer, x, header, a, b),
         Query::Equality(a, b) => put_equality(buffer, x, header, a, b),
+        Query::Trace(r, z) => put_trace(buffer, x, header, r, z),
     }
 }
 

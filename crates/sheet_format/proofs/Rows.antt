@@ -15,7 +15,7 @@ use Rattle.lists.proofs.Test.{SameView, is, isnt, same?}
 use Rattle.sheet_format.specs.Format.{byte, number, row, none as none-begun}
 use Rattle.sheet_format.specs.Written.{little, written, code, Writable}
 use Rattle.sheet_format.specs.declared.Update.the-variants.{Unit, Set, Letter, InverseLetter, Product, Sum, Scale}
-use Rattle.sheet_format.specs.declared.Query.the-variants.{Register, Pairing, Equality}
+use Rattle.sheet_format.specs.declared.Query.the-variants.{Register, Pairing, Equality, Trace}
 use Rattle.sheet_format.specs.declared.Command.{Command}
 use Rattle.sheet_format.specs.declared.Command.the-variants.{End, Begin, Change, Show}
 use Rattle.sheet_format.specs.declared.decoder.Row.the-variants.{Known, Unknown}
@@ -42,6 +42,7 @@ parts (Change (InverseLetter r i)) = refl
 parts (Show (Register r)) = refl
 parts (Show (Pairing a b)) = refl
 parts (Show (Equality a b)) = refl
+parts (Show (Trace r z)) = refl
 
 -- ---- what is written is read
 
@@ -60,6 +61,7 @@ row-written (Change (InverseLetter r i)) rest w = refl
 row-written (Show (Register r)) rest w = refl
 row-written (Show (Pairing a b)) rest w = refl
 row-written (Show (Equality a b)) rest w = refl
+row-written (Show (Trace r z)) rest w = λ j. Known (Show (Trace r (after-one r 8 z rest (w .1) j))) 9
 
 -- ---- what is read is written
 
@@ -81,6 +83,7 @@ read-off (Change (InverseLetter r i)) x = off (Change (InverseLetter (byte x 0) 
 read-off (Show (Register r)) x = off (Show (Register (byte x 0))) refl refl (one-byte x)
 read-off (Show (Pairing a b)) x = off (Show (Pairing (byte x 0) (byte x 1))) refl refl (two-bytes x)
 read-off (Show (Equality a b)) x = off (Show (Equality (byte x 0) (byte x 1))) refl refl (two-bytes x)
+read-off (Show (Trace r z)) x = off (Show (Trace (byte x 0) (number x 1 8))) refl refl (byte-and-word x)
 
 -- ---- a number is the code of a command, or has no row
 
@@ -102,4 +105,5 @@ code? k x =
     or-else (Change (Letter 0 0)) (λ n4. or-else (Change (Product 0 0 0)) (λ n5. or-else (Change (Sum 0 0 0)) (λ n6. or-else (Change (Scale 0 0)) (λ n7.
     or-else (Change (InverseLetter 0 0)) (λ n8.
     or-else (Show (Register 0)) (λ n9. or-else (Show (Pairing 0 0)) (λ n10. or-else (Show (Equality 0 0)) (λ n11.
-    none (sym (other _ _ _ _ _ _ _ _ _ _ _ _ _ k ((((((((((((tt, n0), n1), n2), n3), n4), n5), n6), n7), n8), n9), n10), n11)))))))))))))))
+    or-else (Show (Trace 0 0)) (λ n12.
+    none (sym (other _ _ _ _ _ _ _ _ _ _ _ _ _ _ k (((((((((((((tt, n0), n1), n2), n3), n4), n5), n6), n7), n8), n9), n10), n11), n12))))))))))))))))

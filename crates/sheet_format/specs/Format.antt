@@ -1,4 +1,4 @@
--- The commands of a run sheet (document 01, "Run sheets", and document 02, Ticket 1).
+-- The commands of a run sheet (document 01, "Run sheets", and document 02, Tickets 1 and 4).
 --
 --   byte x i           byte i of x, 0 past its end
 --   number x i n       the number of the n bytes of x from i on, the lowest byte first
@@ -15,7 +15,7 @@ use lib.ListN.{length, getD, drop}
 use Rattle.lists.specs.Lists.{same, less}
 use Rattle.sheet_format.specs.declared.Header.{Header}
 use Rattle.sheet_format.specs.declared.Update.the-variants.{Unit, Set, Letter, InverseLetter, Product, Sum, Scale}
-use Rattle.sheet_format.specs.declared.Query.the-variants.{Register, Pairing, Equality}
+use Rattle.sheet_format.specs.declared.Query.the-variants.{Register, Pairing, Equality, Trace}
 use Rattle.sheet_format.specs.declared.Command.{Command}
 use Rattle.sheet_format.specs.declared.Command.the-variants.{End, Begin, Change, Show}
 use Rattle.sheet_format.specs.declared.Decoded.{Decoded}
@@ -44,7 +44,8 @@ row code x =
     (cond (same code 0x40) (Known (Show (Register (byte x 0))) 1)
     (cond (same code 0x41) (Known (Show (Pairing (byte x 0) (byte x 1))) (1 + 1))
     (cond (same code 0x42) (Known (Show (Equality (byte x 0) (byte x 1))) (1 + 1))
-    Unknown)))))))))))
+    (cond (same code 0x43) (Known (Show (Trace (byte x 0) (number x 1 8))) (1 + 8))
+    Unknown))))))))))))
 
 abbrev pub placedRow : ℕ → ℕ → Row → Decoded
 placedRow n at (Known c wide) = cond (less n (at + wide)) Short (Found c (at + wide))

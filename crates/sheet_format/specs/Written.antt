@@ -1,4 +1,4 @@
--- The commands as document 01 ("Run sheets") and document 02, Ticket 1, write them, apart from how they are read, and the claim that they are read so.
+-- The commands as document 01 ("Run sheets") and document 02, Tickets 1 and 4, write them, apart from how they are read, and the claim that they are read so.
 --
 --   little n v   v in n bytes, the lowest first
 --   written c    the bytes of a command: its code, then its operands
@@ -19,7 +19,7 @@ use Rattle.sheet_format.specs.Format.{byte, decode}
 use Rattle.sheet_format.specs.declared.Update.{Update}
 use Rattle.sheet_format.specs.declared.Update.the-variants.{Unit, Set, Letter, InverseLetter, Product, Sum, Scale}
 use Rattle.sheet_format.specs.declared.Query.{Query}
-use Rattle.sheet_format.specs.declared.Query.the-variants.{Register, Pairing, Equality}
+use Rattle.sheet_format.specs.declared.Query.the-variants.{Register, Pairing, Equality, Trace}
 use Rattle.sheet_format.specs.declared.Command.{Command}
 use Rattle.sheet_format.specs.declared.Command.the-variants.{End, Begin, Change, Show}
 use Rattle.sheet_format.specs.declared.Decoded.the-variants.{Found, NoCommand, Short, Nothing}
@@ -43,6 +43,7 @@ abbrev pub writtenQuery : Query → List ℕ
 writtenQuery (Register r) = 0x40 ∷ r ∷ []
 writtenQuery (Pairing a b) = 0x41 ∷ a ∷ b ∷ []
 writtenQuery (Equality a b) = 0x42 ∷ a ∷ b ∷ []
+writtenQuery (Trace r z) = 0x43 ∷ r ∷ little 8 z
 
 unfoldable pub written : Command → List ℕ
 written End = 0x00 ∷ []
@@ -74,6 +75,7 @@ abbrev pub WritableQuery : Query → Type 0
 WritableQuery (Register r) = Bytes (r ∷ [])
 WritableQuery (Pairing a b) = Bytes (a ∷ b ∷ [])
 WritableQuery (Equality a b) = Bytes (a ∷ b ∷ [])
+WritableQuery (Trace r z) = Bytes (r ∷ []) × Fits 8 z
 
 abbrev pub Writable : Command → Type 0
 Writable End = Bytes []

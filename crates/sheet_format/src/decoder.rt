@@ -46,6 +46,7 @@ fn row_of(code: u8, x: &[u8]) -> Row
         0x40 => Row::Known(Command::Show(Query::Register(first)), 1),
         0x41 => Row::Known(Command::Show(Query::Pairing(first, second)), 2),
         0x42 => Row::Known(Command::Show(Query::Equality(first, second)), 2),
+        0x43 => Row::Known(Command::Show(Query::Trace(first, number(x, 1, 8))), 9),
         _ => Row::Unknown,
     }
 }

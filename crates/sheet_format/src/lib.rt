@@ -42,6 +42,8 @@ pub enum Query {
     Pairing(usize, usize),
     // Whether two registers have equal words.
     Equality(usize, usize),
+    // The trace of a register, with a word z.
+    Trace(usize, u64),
 }
 
 // A command with its operands.

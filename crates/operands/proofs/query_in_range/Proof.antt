@@ -18,7 +18,11 @@ equality : tie.Need-returns-3
 unfolding queryInRange
 equality c = rw (c .before .before .query3 .given .1) (c .two-registers2 .ensures)
 
+trace : tie.Need-returns-4
+unfolding queryInRange isRegister less
+trace c = rw (c .before .query4 .given .1) refl
+
 pub query-in-range-spec : {M : Type 1} → statement M
 query-in-range-spec =
     tie.close
-    (tie.spec (λ c. search needs) (λ c. search needs) (λ c κs. search needs) (λ c. search needs) (λ c κs. search needs) register pairing equality)
+    (tie.spec (λ c. search needs) (λ c. search needs) (λ c κs. search needs) (λ c. search needs) (λ c κs. search needs) (λ c. search needs) register pairing equality trace)

@@ -28,10 +28,15 @@ equality : tie.Need-put-equality-requires
 equality c κs = let f = c .before .before in let k = f .before .before in let two = bounds k (f .query3 .given .1) in
     (start k .pre .0, omega (arith, two), omega (arith, two))
 
+trace : tie.Need-put-trace-requires
+trace c κs = let f = c .before .before in let k = f .before .before in let one = bounds k (f .query4 .given .1) in
+    (start k .pre .0, omega (arith, one))
+
 pub put-shown-spec : {M : Type 1} → statement M
 put-shown-spec =
     tie.close
-    (tie.spec (λ c. search needs) register (λ c. search needs) pairing (λ c. search needs) equality
+    (tie.spec (λ c. search needs) register (λ c. search needs) pairing (λ c. search needs) equality (λ c. search needs) trace
     (λ c. search needs) (λ c. let put = c .before .before in rw (put .before .before .before .query .given .1) (put .put-register .ensures))
     (λ c. search needs) (λ c. let put = c .before .before in rw (put .before .before .before .query2 .given .1) (put .put-pairing .ensures))
-    (λ c. search needs) (λ c. let put = c .before .before in rw (put .before .before .before .query3 .given .1) (put .put-equality .ensures)))
+    (λ c. search needs) (λ c. let put = c .before .before in rw (put .before .before .before .query3 .given .1) (put .put-equality .ensures))
+    (λ c. search needs) (λ c. let put = c .before .before in rw (put .before .before .before .query4 .given .1) (put .put-trace .ensures)))

@@ -3,7 +3,7 @@ use borrow.Author.Needs.{needs}
 use Rattle.lists.specs.Lists.{same}
 use Rattle.sheet_format.specs.Format.{row}
 use Rattle.sheet_format.specs.declared.Update.the-variants.{Unit, Set, Letter, InverseLetter, Product, Sum, Scale}
-use Rattle.sheet_format.specs.declared.Query.the-variants.{Register, Pairing, Equality}
+use Rattle.sheet_format.specs.declared.Query.the-variants.{Register, Pairing, Equality, Trace}
 use Rattle.sheet_format.specs.declared.Command.the-variants.{Begin, Change, Show}
 use Rattle.sheet_format.specs.declared.decoder.Row.the-variants.{Known}
 use Rattle.sheet_format.proofs.Codes.{other}
@@ -14,9 +14,9 @@ use Rattle.sheet_format.proofs.decoder.row_of.Tie as tie
 abbrev start : tie.After-byte3 → tie.Start
 start c = c .before .before .before .before
 
-last : tie.Need-returns-13
+last : tie.Need-returns-14
 unfolding row
-last c = other _ _ _ _ _ _ _ _ _ _ _ _ _ (start (c .before) .args .code) (c .match .rest)
+last c = other _ _ _ _ _ _ _ _ _ _ _ _ _ _ (start (c .before) .args .code) (c .match .rest)
 
 pub row-of-spec : {M : Type 1} → statement M
 unfolding row same
@@ -29,6 +29,7 @@ row-of-spec =
     (λ c. search needs)
     (λ c κs. search needs)
     (λ c. search needs)
+    (λ c κs. search needs)
     (λ c κs. search needs)
     (λ c κs. search needs)
     (λ c κs. search needs)
@@ -51,4 +52,6 @@ row-of-spec =
     (λ c. let b = c .before in rw (c .match .keys10) (λ i. Known (Show (Register (b .before .before .byte .ensures i))) 1))
     (λ c. let b = c .before in rw (c .match .keys11) (λ i. Known (Show (Pairing (b .before .before .byte .ensures i) (b .before .byte2 .ensures i))) 2))
     (λ c. let b = c .before in rw (c .match .keys12) (λ i. Known (Show (Equality (b .before .before .byte .ensures i) (b .before .byte2 .ensures i))) 2))
+    (λ c. let b = c .before .before in
+    rw (c .before .match .keys13) (λ i. Known (Show (Trace (b .before .before .byte .ensures i) (c .number5 .ensures i))) 9))
     last)
