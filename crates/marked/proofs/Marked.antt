@@ -16,9 +16,10 @@ use Rattle.algebra.specs.Nested.{operations, both, free, onward, _⧺_, row, _�
 use Rattle.algebra.specs.Cost.{cLine, c, C}
 use Rattle.algebra.specs.Pairing.{power, pairing}
 use Rattle.ring.specs.Sum.{sum}
+use Rattle.markov_trace.specs.Trace.{turned, trace}
 use Rattle.ranks.specs.Ranks.{size, needed, scratchSize}
 use Rattle.element_calls.specs.Coefficients.{modulus}
-use Rattle.element_calls.specs.Calls.{rankVerdict, sizeVerdict, scratchVerdict, productCall, pairingCall}
+use Rattle.element_calls.specs.Calls.{rankVerdict, sizeVerdict, scratchVerdict, productCall, pairingCall, traceCall}
 use Rattle.sheet_format.specs.Format.{byte, number, row as command-row, decode, header}
 use Rattle.operands.specs.Operands.{isRegister, updateInRange, queryInRange, operandsInRange, inRange, invertible, mayRun}
 use Rattle.sheet.specs.Check.{inOrder, placedFrom, placed, commands, firstRefusal, checkSheet}
@@ -35,7 +36,7 @@ pub marked : All Holds table
 unfolding modular same less range first tally product identity swap generator ofWord below len above entry towerOf cycle ofCycles
     imagesOf descent firstLetters shortestWord factorial series block blocks place join perms coefficient element plus scale sumOver basis unit minusOne letter
     act times operations both free onward _⧺_ row _⊞_ _⊠_ sumRow part level nestedAct nested cLine c C rankVerdict size sizeVerdict needed scratchSize scratchVerdict
-    modulus productCall inverse sum power pairing pairingCall
+    modulus productCall inverse sum power pairing pairingCall turned trace traceCall
     byte number command-row decode header inOrder isRegister updateInRange queryInRange operandsInRange inRange invertible mayRun placedFrom placed commands
     firstRefusal checkSheet register register-element overwrite zeros updated obey updateCost cost obeyAll runSheet beginCall fits obeys turnCall turns
     digits decimal pairLine line taggedPair coefficients shown text texts printed ended
@@ -57,7 +58,37 @@ marked = (
                 (refl, refl),
                 (
                   (refl, refl),
-                  (refl, (refl, (refl, (refl, ((refl, refl), ((refl, refl, refl, refl), ((refl, refl, refl), ((refl, refl, refl), (refl, tt))))))))),
+                  (
+                    refl,
+                    (
+                      refl,
+                      (
+                        refl,
+                        (
+                          refl,
+                          (
+                            (refl, refl),
+                            (
+                              (refl, refl, refl, refl),
+                              (
+                                (refl, refl, refl),
+                                (
+                                  (refl, refl, refl),
+                                  (
+                                    refl,
+                                    (
+                                      (refl, refl),
+                                      ((refl, refl), ((refl, refl), ((refl, refl), (refl, tt)))),
+                                    ),
+                                  ),
+                                ),
+                              ),
+                            ),
+                          ),
+                        ),
+                      ),
+                    ),
+                  ),
                 ),
               ),
             ),

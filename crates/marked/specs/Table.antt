@@ -1,10 +1,12 @@
--- The marked cases of document 01, and of document 02, Ticket 2, as a table of facts about the definitions.
+-- The marked cases of document 01, and of document 02, Ticket 2, as a table of facts about the definitions. Document 02 marks no case for Ticket 4: the
+-- rows on traces are the first values of its definition.
 --
 --   Case        a marked case: what is given, and what the document says of it
 --   Holds c     the definitions give what the document says: the list of permutations and their places; the tower and its images; a square by the
 --               product over permutations, by the nested method and as the product call's outcome; C and the count that the nested method
 --               carries; the count that the product call answers; the run of a sheet, at once and by turns, and what is printed for it; a
---               pairing, the coefficient of the unit in the product, and the word that the call for the pairing gives
+--               pairing, the coefficient of the unit in the product, and the word that the call for the pairing gives; a trace, and the
+--               word that the call for the trace gives, with the scratch that it leaves
 --   table       the marked cases, in the documents' order
 use mathlib.Core.Path.{_≡_}
 use mathlib.Core.List.{List, [], _∷_, _++_, map}
@@ -24,8 +26,9 @@ use Rattle.algebra.specs.Product.{minusOne, times}
 use Rattle.algebra.specs.Nested.{operations, nested}
 use Rattle.algebra.specs.Cost.{C}
 use Rattle.algebra.specs.Pairing.{pairing}
+use Rattle.markov_trace.specs.Trace.{trace}
 use Rattle.ranks.specs.Ranks.{needed}
-use Rattle.element_calls.specs.Calls.{Buffers, productCall, pairingCall}
+use Rattle.element_calls.specs.Calls.{Buffers, productCall, pairingCall, traceCall}
 use Rattle.sheet_format.specs.Format.{header}
 use Rattle.runner.specs.Run.{given, runSheet}
 use Rattle.runner.specs.Turn.{first, beginCall, turns}
@@ -48,6 +51,8 @@ pub data Case : Type 0 where
   run : List ℕ → List ℕ → ℕ → List ℕ → Case
   -- a rank, q, words of v and w, and the pairing of T_v with T_w
   paired : ℕ → ℕ → List ℕ → List ℕ → ℕ → Case
+  -- a rank, q, z, a word of w, and the trace of T_w
+  traced : ℕ → ℕ → ℕ → List ℕ → ℕ → Case
   -- the bytes of a sheet, and what is printed for it
   prints : List ℕ → List ℕ → Case
 
@@ -81,6 +86,10 @@ Holds (paired m q x y n) =
     (pairing ℕ words q m (basisOf m x) (basisOf m y) ≡ n)
     × (coefficient ℕ words (times ℕ words q (minusOne ℕ words q) m m (basisOf m x) (basisOf m y)) (identity m) ≡ n)
     × (pairingCall m q (basisOf m x) (basisOf m y) ≡ record { verdict = Accepted; value = n })
+Holds (traced m q z x n) =
+    (trace ℕ words q (minusOne ℕ words q) z m (basisOf m x) ≡ n)
+    × (traceCall m q z (basisOf m x) (replicate (needed m + 1) 7)
+    ≡ record { answer = record { verdict = Accepted; value = n }; lent = replicate (needed m) 0 ++ (7 ∷ []) })
 Holds (prints s t) = printed s ≡ t
 
 abbrev pub table : List Case
@@ -113,4 +122,14 @@ table =
     ∷ 0x20 ∷ 0x01 ∷ 0x30 ∷ 0x01 ∷ 0x02 ∷ 0x30 ∷ 0x01 ∷ 0x01 ∷ 0x41 ∷ 0x00 ∷ 0x00 ∷ 0x41 ∷ 0x00 ∷ 0x01 ∷ 0x00 ∷ [])
     -- H 2 2, P 0, P 4, N 36
     (72 ∷ 32 ∷ 50 ∷ 32 ∷ 50 ∷ 10 ∷ 80 ∷ 32 ∷ 48 ∷ 10 ∷ 80 ∷ 32 ∷ 52 ∷ 10 ∷ 78 ∷ 32 ∷ 51 ∷ 54 ∷ 10 ∷ [])
+    ∷ traced 2 3 5 [] 1
+    ∷ traced 2 3 5 (1 ∷ []) 5
+    ∷ traced 2 3 5 (1 ∷ 2 ∷ []) 25
+    ∷ traced 2 3 5 (1 ∷ 2 ∷ 1 ∷ []) 65
+    -- T of s_1 s_2 in register 0, and its trace with z = 5
+    ∷ prints
+    (0x10 ∷ 0x02 ∷ 0x03 ∷ 0x00 ∷ 0x00 ∷ 0x00 ∷ 0x00 ∷ 0x00 ∷ 0x00 ∷ 0x00 ∷ 0x20 ∷ 0x00 ∷ 0x30 ∷ 0x00 ∷ 0x01 ∷ 0x30 ∷ 0x00 ∷ 0x02
+    ∷ 0x43 ∷ 0x00 ∷ 0x05 ∷ 0x00 ∷ 0x00 ∷ 0x00 ∷ 0x00 ∷ 0x00 ∷ 0x00 ∷ 0x00 ∷ 0x00 ∷ [])
+    -- H 2 3, T 25, N 18
+    (72 ∷ 32 ∷ 50 ∷ 32 ∷ 51 ∷ 10 ∷ 84 ∷ 32 ∷ 50 ∷ 53 ∷ 10 ∷ 78 ∷ 32 ∷ 49 ∷ 56 ∷ 10 ∷ [])
     ∷ []
