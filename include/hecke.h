@@ -110,12 +110,12 @@ uint64_t hecke_product(size_t m, uint64_t q, const uint64_t *left, size_t left_l
 uint64_t hecke_pairing(size_t m, uint64_t q, const uint64_t *left, size_t left_len, const uint64_t *right, size_t right_len,
                        uint64_t *answer, size_t answer_len);
 
-/* The trace of an element h of rank m with the parameter z, in answer[0] (document 02, Ticket 4): at rank 0 the coefficient; at rank
- * m the trace of h_0, plus z times the sum over k = 1 to m of the trace of h_k T_a, where h_0 to h_m are the blocks of h, of rank
- * m - 1, and a is a(m - 1, k - 1). It counts no ring operation. The first hecke_scratch_size(m) words of scratch are zero
- * afterwards, and the rest as before. Refused: 1 a rank above 6; 2 an element that is not M words; 3 scratch of fewer than
- * hecke_scratch_size(m) words. Of rank 1, for every q, 2 3 and z = 5 give 17. Of rank 2 with q = 3 and z = 5, 0 0 0 0 0 1, which is T
- * of s_1 s_2 s_1, gives 65. */
+/* The trace of an element h of rank m with the parameter z, in answer[0] (document 02, Ticket 4): at rank 0 the coefficient; at
+ * rank m the trace of h_0, plus z times the sum over k = 1 to m of the trace of h_k T_a, where h_0 to h_m are the blocks of h, elements
+ * of rank m - 1, and a is s_(m-1) s_(m-2) .. s_(m-k+1), a product of k - 1 generators. It counts no ring operation. The first
+ * hecke_scratch_size(m) words of scratch are zero afterwards, and the rest as before. Refused: 1 a rank above 6; 2 an element that
+ * is not M words; 3 scratch of fewer than hecke_scratch_size(m) words. Of rank 1, for every q, 2 3 and z = 5 give 17. Of rank 2
+ * with q = 3 and z = 5, 0 0 0 0 0 1, which is T of s_1 s_2 s_1, gives 65. */
 uint64_t hecke_trace(size_t m, uint64_t q, uint64_t z, const uint64_t *element, size_t element_len,
                      uint64_t *scratch, size_t scratch_len, uint64_t *answer, size_t answer_len);
 
@@ -127,7 +127,7 @@ uint64_t hecke_sheet_check(const uint8_t *sheet, size_t sheet_len);
 
 /* Runs a whole run sheet, of rank m, on four registers of 720 words; register r begins at word 720 r. Whatever they held, the
  * run begins with zero elements; afterwards each register has its element in its first M words, and zeros after them.
- * answer[0] is the count of ring operations over all commands. A show prints nothing. Refused: 9 to 15 as by
+ * answer[0] is the count of ring operations over all commands. Commands 0x40 to 0x43 print nothing. Refused: 9 to 15 as by
  * hecke_sheet_check, and then 8 registers that are not 2,880 words. The sheet, in hexadecimal,
  *     10 01 03 00 00 00 00 00 00 00 20 00 30 00 01 30 00 01 40 00 00
  * leaves 3 2 in register 0, zeros in all the rest, and counts 6. */

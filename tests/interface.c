@@ -433,8 +433,9 @@ static void pairings_of_rank_6(void) {
 static void traces(void) {
     const uint64_t seven[] = {7}, h[] = {2, 3}, trefoil[] = {6, 7}, all[] = {1, 10, 100, 1000, 10000, 100000};
     const uint64_t edges[] = {UINT64_MAX, (uint64_t)1 << 63}, qs[] = {0, 1, 2, 3, (uint64_t)1 << 63, UINT64_MAX};
+    const uint64_t zs[] = {UINT64_MAX, (uint64_t)1 << 63, 7, 5, 1, 0};
     for (size_t i = 0; i < sizeof qs / sizeof *qs; i++) {
-        uint64_t q = qs[i], z = qs[5 - i] + 5, due_trace[] = {1, z, z, z * z, z * z, z * ((q - 1) * z + q)};
+        uint64_t q = qs[i], z = zs[i], due_trace[] = {1, z, z, z * z, z * z, z * ((q - 1) * z + q)};
         GIVES(hecke_trace(0, q, z, LEFT(seven), SCRATCH(6), ANSWER), CLEARED(6), ANSWERS(7));
         GIVES(hecke_trace(1, q, 5, LEFT(h), SCRATCH(14), ANSWER), CLEARED(14), ANSWERS(17));
         GIVES(hecke_trace(1, q, z, LEFT(h), SCRATCH(14), ANSWER), CLEARED(14), ANSWERS(2 + 3 * z));

@@ -40,14 +40,14 @@ const TERMS: &str = "
   copied to the tower when all images are good and the buffer fits.
 - **two passes**: the library's former method in plain Rust, `bench/src/towers.rs`: all images are vetted, then read again and counted.
 
-All results, and the scratch after a product or a trace, are compared before the clock starts. The contenders take turns, round by round,
-on the same of eight random inputs; a time is the mean over a batch of calls, the least over all rounds with the median in
-brackets. Result slices hold what the call before left: nothing is cleared for a call. Every product and every trace clears the first (m + 6) M
-words of its scratch at its end, as document 01 asks, and this is timed. A word's element is copied from the input first, which
+All results, and the scratch after a product or a trace, are compared before the clock starts. The contenders take turns, round by
+round, on the same of eight random inputs; a time is the mean over a batch of calls, the least over all rounds with the median in
+brackets. Result slices hold what the call before left: nothing is cleared for a call. Every product and every trace clears the first
+(m + 6) M words of its scratch at its end, as documents 01 and 02 ask, and this is timed. A word's element is copied from the input first, which
 is timed too. A signed word has an odd q and letters with random signs; the inverse of q, which the library counts as free, is
 found in each call and timed. In the table of letters both ways the library's two calls take turns on the same letters, and in that
-of the pairing on the same elements. In that of the trace the clearing is the same words set to zero by Rust's `fill`. A sheet is one process: its start and both pipes are timed. Ratios are those of the least
-times.
+of the pairing on the same elements. In that of the trace the clearing is the same words set to zero by Rust's `fill`. A sheet is
+one process: its start and both pipes are timed. Ratios are those of the least times.
 
 Towers: of one point nothing is converted, and these rows are what a call costs by itself, its checks and its returned word. Up
 to 8 points it is a large part of the time, and the ratios there change with the layout of both programs: builds before this

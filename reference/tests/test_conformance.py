@@ -291,7 +291,7 @@ class Traces(Kit):
         self.assertEqual(self.told(self.changed_trace()), set())
 
     def test_the_factor_is_told(self):
-        """Left out, and at the highest rank alone."""
+        """Left out, and squared at one level of the recursion alone."""
         self.assertEqual(self.told(self.changed_trace(factor=lambda m, z: 1)), set(RANKS[1:]))
         for rank in RANKS[1:]:
             self.assertLessEqual({rank}, self.told(self.changed_trace(factor=lambda m, z: z * z if m == rank else z)))
@@ -320,8 +320,13 @@ class Traces(Kit):
 
     def test_each_parameter(self):
         """Each q, and for z the edges, which give different traces of one element."""
-        found = {(commands[0].operands['q'], one.operands['z']): self.texts[name].splitlines()[1] for name, commands in self.valid.items()
-                 for one in commands if name.startswith('trace_at_') and one.code == s.TRACE and commands[0].operands['m'] == 3}
+        found = {}
+        for name, commands in self.valid.items():
+            if name.startswith('trace_at_') and commands[0].operands['m'] == 3:
+                zs = [one.operands['z'] for one in commands if one.code == s.TRACE]
+                lines = [line for line in self.texts[name].splitlines() if line[0] == 'T']
+                self.assertEqual(len(zs), len(lines))
+                found.update({(commands[0].operands['q'], z): line for z, line in zip(zs, lines)})
         self.assertLessEqual(set(PARAMETERS.values()), {q for q, _ in found})
         at_3 = {z: text for (q, z), text in found.items() if q == 3}
         self.assertLessEqual({0, 1, 2, 2 ** 32, 2 ** 63, WORD - 1}, set(at_3))

@@ -258,8 +258,8 @@ pub fn pairing(m: usize, q: u64, left: &[u64], right: &[u64]) -> Result<u64, Ref
     .map(|[value]| value)
 }
 
-/// The trace of an element of rank m with the parameter z. It counts no ring operation. The scratch has `scratch_size(m)` words or
-/// more; the first `scratch_size(m)` of them are zero afterwards.
+/// The trace of an element of rank m with the parameter z: at rank 0 the coefficient; `include/hecke.h` has the rule for higher ranks. It
+/// counts no ring operation. The scratch has `scratch_size(m)` words or more; the first `scratch_size(m)` of them are zero afterwards.
 ///
 /// ```
 /// let mut scratch = vec![7; hecke::scratch_size(2)];
