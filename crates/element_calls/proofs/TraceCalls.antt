@@ -1,13 +1,13 @@
 -- The claim on the call for the trace holds. Rests on Demand3, Answers, Verdicts, algebra's Modular and markov_trace's TraceModular.
 use mathlib.Core.Path.{_≡_, refl, sym, ap, ap₂, _∙_}
 use mathlib.Core.List.{List}
-use Prim.Native.Nat.{ℕ, suc, _+_, _*_, _≤_, _<_}
+use Prim.Native.Nat.{ℕ, suc, _≤_, _<_}
 use native.Mathlib.Omega.{arith}
 use lib.ListN.{length}
 use Rattle.ring.specs.Modular.{wordModulus, words}
 use Rattle.lists.specs.Numbers.{factorial}
 use Rattle.perms.specs.Permutation.{identity, generator}
-use Rattle.algebra.specs.Element.{unit, T, plus, scale}
+use Rattle.algebra.specs.Element.{unit, T, scale}
 use Rattle.algebra.specs.Product.{times as timesList}
 use Rattle.algebra.specs.Laws.{defined, Closed}
 use Rattle.algebra.proofs.Modular.{word-closed}
@@ -16,7 +16,7 @@ use Rattle.markov_trace.specs.Laws.{TraceLaws}
 use Rattle.markov_trace.proofs.TraceModular.{word-trace, word-embed-element}
 use Rattle.ranks.specs.Ranks.{needed}
 use Rattle.element_calls.specs.Coefficients.{modulus, Coefficient, parametersOf}
-use Rattle.element_calls.specs.Calls.{sumCall, scaleCall, traceCall}
+use Rattle.element_calls.specs.Calls.{traceCall}
 use Rattle.element_calls.specs.Claims.{Given}
 use Rattle.element_calls.specs.Demand3.{E, Lawful}
 use Rattle.element_calls.specs.TraceCalls.{Room, times, TraceLawful, MarkovLawful, TraceCalls}

@@ -13,6 +13,7 @@ pub mod Parts
 pub mod LentAgain
 pub mod InRow
 pub mod Cuts
+pub mod BlockOf
 pub mod Overwrite
 -- loops
 pub mod Fill

@@ -1,25 +1,16 @@
--- A loop that writes a list over the first words of a longer one; and the words of a sum of the first block with another one. Rests on word_lists' Loops and
--- lists' Blocks.
+-- The words of a sum of the first block of a list with another one, and of its sum with a multiple of another one. Rests on word_lists' Loops and lists' Blocks.
 use mathlib.Core.Path.{_≡_, sym, ap, _∙_}
-use mathlib.Core.List.{List, _++_}
+use mathlib.Core.List.{List}
 use Prim.Native.Nat.{ℕ, _+_, _-_, _*_, _≤_, _<_}
 use native.Mathlib.Omega.{arith}
-use lib.ListN.{length, getD, take, drop, length-drop, take-append-drop}
-use lib.Seq.{length-take-le, getD-take, getD-drop, ext-getD}
+use lib.ListN.{length, getD, take, drop}
+use lib.Seq.{length-take-le, getD-take, getD-drop}
 use Rattle.ring.specs.Modular.{words}
 use Rattle.lists.specs.Blocks.{block}
 use Rattle.lists.proofs.Blocks.{block-size}
 use Rattle.algebra.specs.Element.{plus, scale}
 use Rattle.algebra.proofs.Lists.{plus-length, scale-length}
-use Rattle.word_lists.proofs.Loops.{Written, written-front, plus-next, scale-next}
-
--- the other words are as they were
-pub written-first : {x₀ x : List ℕ} {i : ℕ} (t : List ℕ) → Written t x₀ x i → i ≤ length x₀ → length t ≡ i → x ≡ t ++ drop i x₀
-written-first {x₀} {x} {i} t h le e = sym (take-append-drop i x) ∙ (λ j. written-front t h le e j ++ rest j)
-  where
-    rest : drop i x ≡ drop i x₀
-    rest = ext-getD 0 (drop i x) (drop i x₀) (length-drop i x ∙ ap (λ n. n - i) (h .same) ∙ sym (length-drop i x₀))
-        (λ k l. getD-drop i x k 0 ∙ h .rest (i + k) (omega arith) ∙ sym (getD-drop i x₀ k 0))
+use Rattle.word_lists.proofs.Loops.{plus-next, scale-next}
 
 -- block k of x₀, which is now x; words i of it and of the first block are read at i and at j before they are overwritten
 module _ (b k i : ℕ) {j : ℕ} (x₀ x : List ℕ) (fits : k * b + b ≤ length x₀) (l : i < b) (at : j ≡ k * b + i) where

@@ -2,7 +2,7 @@
 --
 --   gathered p b x₀ k      the sum of the first k + 1 blocks of x₀, of b words
 --   Gathering p b x₀ x k   this sum stands in the place of the first block of x₀, which is now x
-use mathlib.Core.Path.{_≡_, refl, sym, ap, ap₂, _∙_}
+use mathlib.Core.Path.{_≡_, refl, sym, ap, _∙_}
 use mathlib.Core.List.{List, _++_}
 use Prim.Native.Nat.{ℕ, zero, suc, _+_, _*_, _≤_}
 use native.Mathlib.Nat.{zero-add, zero-mul}

@@ -1,4 +1,3 @@
-mod BlockOf
 mod FirstBlock
 mod Gathering
 mod Turning

@@ -4,12 +4,12 @@
 --   WrittenFrom t x₀ x i    the words of x from index i on are those of t, and the first i as they were in x₀
 use mathlib.Core.Path.{_≡_, refl, sym, ap, _∙_}
 use mathlib.Core.Logic.{⊎-elim}
-use mathlib.Core.List.{List}
-use Prim.Native.Nat.{ℕ, suc, _≤_, _<_}
+use mathlib.Core.List.{List, _++_}
+use Prim.Native.Nat.{ℕ, suc, _+_, _-_, _≤_, _<_}
 use native.Mathlib.Nat.{eq-or-lt-of-le}
 use native.Mathlib.Omega.{arith}
-use lib.ListN.{length, getD, set, take, length-set}
-use lib.Seq.{length-take-le, getD-take, getD-set-same, getD-set-other, ext-getD}
+use lib.ListN.{length, getD, set, take, drop, length-set, length-drop, take-append-drop}
+use lib.Seq.{length-take-le, getD-take, getD-drop, getD-set-same, getD-set-other, ext-getD}
 use Rattle.ring.specs.Modular.{words}
 use Rattle.lists.proofs.Fill.{Filled, filled-all}
 use Rattle.algebra.specs.Element.{plus, scale}
@@ -25,6 +25,14 @@ pub written-front : {x₀ x : List ℕ} {i : ℕ} (t : List ℕ) → Written t x
 written-front {x₀} {x} {i} t h le e =
     let size : length (take i x) ≡ i = length-take-le i x (omega (arith, h .same)) in
     ext-getD 0 (take i x) t (size ∙ sym e) (λ k l. getD-take i x k 0 (omega (arith, size)) ∙ h .done k (omega (arith, size)))
+
+-- and the other words are as they were
+pub written-first : {x₀ x : List ℕ} {i : ℕ} (t : List ℕ) → Written t x₀ x i → i ≤ length x₀ → length t ≡ i → x ≡ t ++ drop i x₀
+written-first {x₀} {x} {i} t h le e = sym (take-append-drop i x) ∙ (λ j. written-front t h le e j ++ rest j)
+  where
+    rest : drop i x ≡ drop i x₀
+    rest = ext-getD 0 (drop i x) (drop i x₀) (length-drop i x ∙ ap (λ n. n - i) (h .same) ∙ sym (length-drop i x₀))
+        (λ k l. getD-drop i x k 0 ∙ h .rest (i + k) (omega arith) ∙ sym (getD-drop i x₀ k 0))
 
 -- ---- from the end
 

@@ -1,4 +1,4 @@
--- The loop writes the words of the sum over the first block; when it reads words i of both blocks, they are still as they were. Rests on FirstBlock.
+-- The loop writes the words of the sum over the first block; when it reads words i of both blocks, they are still as they were. Rests on FirstBlock and word_lists' Loops.
 use mathlib.Core.Path.{_≡_, sym, ap, _∙_}
 use Prim.Native.Nat.{ℕ, _+_, _-_, _*_, _≤_}
 use native.Mathlib.Omega.{arith}

@@ -1,17 +1,17 @@
--- The loop writes the words of the sum over the first block; when it reads words i of both blocks, they are still as they were. Rests on FirstBlock.
+-- The loop writes the words of the sum over the first block; when it reads words i of both blocks, they are still as they were. Rests on FirstBlock and word_lists' Loops.
 use mathlib.Core.Path.{_≡_, refl, sym, ap, _∙_}
 use mathlib.Core.List.{_++_}
 use Prim.Native.Nat.{ℕ, _-_, _≤_}
 use native.Mathlib.Omega.{arith}
 use borrow.Author.Needs.{needs}
-use lib.ListN.{length, take, drop}
+use lib.ListN.{take, drop}
 use Rattle.ring.specs.Modular.{words}
 use Rattle.lists.specs.Blocks.{block}
 use Rattle.lists.proofs.Fill.{filled-none, filled-more}
 use Rattle.algebra.specs.Element.{plus}
-use Rattle.word_lists.proofs.Loops.{Written}
+use Rattle.word_lists.proofs.Loops.{Written, written-first}
 use Rattle.element_calls.specs.Coefficients.{modulus}
-use Rattle.traces.proofs.FirstBlock.{written-first, next-sum, sum-size}
+use Rattle.traces.proofs.FirstBlock.{next-sum, sum-size}
 use Rattle.traces.proofs.blocks.gather.Statement.{statement}
 use Rattle.traces.proofs.blocks.gather.Tie as tie
 
