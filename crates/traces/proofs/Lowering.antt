@@ -1,6 +1,7 @@
 -- A level of the trace from its three steps: the blocks are turned, those after the first are added up in the place of the second, and z times the sum is added
--- to the first. Rests on BlockOf, lists' Blocks and Parts, and markov_trace's Lengths.
-use mathlib.Core.Path.{_≡_, refl, sym, ap, ap₂, _∙_}
+-- to the first. Rests on BlockOf and Turning, lists' Blocks and Parts, algebra's CoefficientActions, and
+-- markov_trace's Lengths.
+use mathlib.Core.Path.{_≡_, sym, ap, ap₂, _∙_}
 use mathlib.Core.List.{List, _++_}
 use Prim.Native.Nat.{ℕ, zero, suc, _+_, _-_, _*_, _≤_, _<_}
 use native.Mathlib.Nat.{zero-mul}
@@ -8,7 +9,6 @@ use native.Mathlib.Omega.{arith}
 use lib.ListN.{length, take, drop, length-drop}
 use lib.Seq.{take-at, drop-at, take-all, length-take-le}
 use borrow.Rule.Slice.PartMut.{midOf, putMid}
-use Rattle.lists.specs.Numbers.{factorial}
 use Rattle.lists.specs.Blocks.{block, blocks}
 use Rattle.lists.proofs.Blocks.{block-size, block-drop}
 use Rattle.lists.proofs.Parts.{fits-block, rest-put}

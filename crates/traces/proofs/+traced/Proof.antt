@@ -1,5 +1,5 @@
 -- At rank 0 the trace is read off; else a level is made and the rest is traced. The measure is the rank. Rests on LevelByLevel.
-use mathlib.Core.Path.{_≡_, sym, ap, _∙_}
+use mathlib.Core.Path.{_∙_}
 use Prim.Native.Nat.{ℕ, _-_, _≤_, _<_}
 use native.Mathlib.Omega.{arith}
 use borrow.Author.Needs.{needs}

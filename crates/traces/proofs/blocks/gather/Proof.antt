@@ -4,7 +4,7 @@ use mathlib.Core.List.{_++_}
 use Prim.Native.Nat.{ℕ, _-_, _≤_}
 use native.Mathlib.Omega.{arith}
 use borrow.Author.Needs.{needs}
-use lib.ListN.{length, take, drop}
+use lib.ListN.{take, drop}
 use Rattle.ring.specs.Modular.{words}
 use Rattle.lists.specs.Blocks.{block}
 use Rattle.lists.proofs.Fill.{filled-none, filled-more}

@@ -1,5 +1,5 @@
 -- In each step of the loop one letter of the word of a(m, l) acts on x. Rests on letters' WordAction and Fits, and perms' Word.
-use mathlib.Core.Path.{_≡_, sym, ap, _∙_}
+use mathlib.Core.Path.{sym, ap, _∙_}
 use Prim.Native.Nat.{ℕ, _-_, _≤_}
 use native.Mathlib.Omega.{arith}
 use borrow.Author.Needs.{needs}
