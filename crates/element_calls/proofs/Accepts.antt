@@ -1,5 +1,5 @@
--- A call that is taken was given a rank, sizes and a word as document 01 and document 02, Tickets 1, 2 and 4, want them: the record `Accepts`. Rests on Verdicts,
--- SignedVerdicts and Answers.
+-- A call that is taken was given a rank, sizes and a word as document 01 and document 02, Tickets 1, 2 and 4, want them: the record `Accepts`.
+-- Rests on Verdicts, SignedVerdicts and Answers.
 use mathlib.Core.Path.{sym, _∙_}
 use lib.ListN.{length}
 use Rattle.refusals.specs.Refusals.{_then_}

@@ -7,7 +7,7 @@ use lib.ListN.{length}
 use Rattle.ring.specs.Modular.{wordModulus, words}
 use Rattle.lists.specs.Numbers.{factorial}
 use Rattle.perms.specs.Permutation.{identity, generator}
-use Rattle.algebra.specs.Element.{unit, T, scale}
+use Rattle.algebra.specs.Element.{unit, T}
 use Rattle.algebra.specs.Product.{times as timesList}
 use Rattle.algebra.specs.Laws.{defined, Closed}
 use Rattle.algebra.proofs.Modular.{word-closed}
@@ -64,14 +64,14 @@ module _ (m q z : ℕ) (hq : q < wordModulus) (hz : z < wordModulus) where
     unfolding modulus unit
     trace-lawful = record {
       taken = λ h scratch a n. trace-given m q z h scratch rank (a .size) n;
-      clears = λ h scratch a n. trace-cleared m q z h scratch (trace-given m q z h scratch rank (a .size) n);
+      clears = λ h scratch t. trace-cleared m q z h scratch t;
       unit = λ scratch n. gives scratch (C m q rank hq .basis (identity m)) n ∙ L .unit;
-      sum = λ h g result scratch a b c n.
+      sum = λ h g result s₁ s₂ s₃ a b c n₁ n₂ n₃.
           rw (sum-lent m h g result (D m q rank hq .sum-taken h g result a b c))
-          (gives scratch (C m q rank hq .sum h g a b) n ∙ L .sum h g a b ∙ sym (ap₂ (words .add) (gives scratch a n) (gives scratch b n)));
-      multiple = λ c h result scratch k a b n.
+          (gives s₁ (C m q rank hq .sum h g a b) n₁ ∙ L .sum h g a b ∙ sym (ap₂ (words .add) (gives s₂ a n₂) (gives s₃ b n₃)));
+      multiple = λ c h result s₁ s₂ k a b n₁ n₂.
           rw (scale-lent m c h result (D m q rank hq .scale-taken c h result a b))
-          (gives scratch (C m q rank hq .scale c h k a) n ∙ L .multiple c h k a ∙ sym (ap (words .mul c) (gives scratch a n)));
+          (gives s₁ (C m q rank hq .scale c h k a) n₁ ∙ L .multiple c h k a ∙ sym (ap (words .mul c) (gives s₂ a n₂)));
     }
 
   module _ (rank : suc m ≤ 6) where

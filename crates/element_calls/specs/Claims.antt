@@ -3,8 +3,7 @@
 --   Taken a        no check refuses a call with the answer a
 --   Given a        no check refuses a call with the answer a, which is one word
 --   NoneBelow x    no letter of x is below 0
---   Refusals       a call that is refused counts 0 and leaves every lent slice as it was; a pairing or a trace
---                  that is refused counts 0 and gives 0
+--   Refusals       a call that is refused counts 0 and leaves every lent slice as it was; a pairing or a trace that is refused counts 0 and gives 0
 --   Accepts        a call that is taken has a rank of at most 6, elements of M = (m + 1)! words, scratch of at least (m + 6) M words, and a word of at most
 --                  4,096 letters from 1 to m, or from -m to m and not 0; and where a letter is below 0, q has an inverse
 use mathlib.Core.Path.{_≡_}

@@ -1,8 +1,10 @@
 -- What is claimed of the call for the trace (document 02, Ticket 4): of the word that it gives, and of what the calls for the product, the sum and the
--- scaling write. There E m q h says, as in Demand3, that h is an element of rank m, tr h scratch is the word that the call gives with the scratch that is lent, o
--- are the operations on words, and Room m scratch says that the scratch suffices.
+-- scaling write. There E m q h says, as in Demand3, that h is an element of rank m, tr h scratch is the word that the call gives with the scratch that
+-- is lent, and o are the operations on words.
 --
---   times h g result scratch   what the call for the product writes
+--   Room m scratch             the scratch suffices for rank m
+--   times m q h g result scratch
+--                              what the call for the product writes
 --   TraceLawful m q z          the claim for one rank m, one word q and one word z
 --   MarkovLawful m q z         tr(x T_(m+1) y) = z tr(x y), for x and y of rank m, which are taken as elements of rank m + 1; each product may have a result
 --                              slice and a scratch of its own
@@ -40,13 +42,13 @@ module _ (m q z : ℕ) where
   pub record TraceLawful : Type 0 where
     pub taken : (h scratch : List ℕ) → E m q h → Room m scratch → Given (traceCall m q z h scratch .answer)
     -- its first (m + 6) M words are zero, and the rest as before
-    pub clears : (h scratch : List ℕ) → E m q h → Room m scratch
+    pub clears : (h scratch : List ℕ) → Given (traceCall m q z h scratch .answer)
         → traceCall m q z h scratch .lent ≡ replicate ((m + 6) * factorial (suc m)) 0 ++ drop ((m + 6) * factorial (suc m)) scratch
     pub unit : (scratch : List ℕ) → Room m scratch → tr (unit ℕ o m) scratch ≡ o .one
-    pub sum : (h g result scratch : List ℕ) → E m q h → E m q g → length result ≡ factorial (suc m) → Room m scratch
-        → tr (sumCall m h g result .lent) scratch ≡ o .add (tr h scratch) (tr g scratch)
-    pub multiple : (c : ℕ) (h result scratch : List ℕ) → Coefficient (parametersOf q) c → E m q h → length result ≡ factorial (suc m) → Room m scratch
-        → tr (scaleCall m c h result .lent) scratch ≡ o .mul c (tr h scratch)
+    pub sum : (h g result s₁ s₂ s₃ : List ℕ) → E m q h → E m q g → length result ≡ factorial (suc m) → Room m s₁ → Room m s₂ → Room m s₃
+        → tr (sumCall m h g result .lent) s₁ ≡ o .add (tr h s₂) (tr g s₃)
+    pub multiple : (c : ℕ) (h result s₁ s₂ : List ℕ) → Coefficient (parametersOf q) c → E m q h → length result ≡ factorial (suc m) → Room m s₁ → Room m s₂
+        → tr (scaleCall m c h result .lent) s₁ ≡ o .mul c (tr h s₂)
 
   pub record MarkovLawful : Type 0 where
     pub markov : (x y r₁ s₁ r₂ s₂ r₃ s₃ scratch scratch' : List ℕ) → E m q x → E m q y

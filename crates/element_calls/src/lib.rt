@@ -1,6 +1,5 @@
-// What the seven element calls check and answer: the checks, the answers, and the parameters of the algebra. What a call answers and
-// writes is defined in specs/Calls; the work itself is in `linear`, `word_actions`, `hecke`, `pairings` and
-// `traces`.
+// What the seven element calls check and answer: the checks, the answers, and the parameters of the algebra. What a call answers
+// and writes is defined in specs/Calls; the work itself is in `linear`, `word_actions`, `hecke`, `pairings` and `traces`.
 
 ghost use mathlib.Core.Path.{_≡_};
 ghost use Rattle.element_calls.specs.Coefficients.{parametersOf};

@@ -9,8 +9,8 @@
 // result and the scratch is 170 before the call.
 //
 // A line is A and the count, or the value of a pairing or a trace, or E with the number, the place and the count or value of the
-// refusal, which is 0; then the slice that the call writes; for a product and a trace also the digest of the scratch. A slice of
-// over 120 words is written as its digest.
+// refusal, which is 0; then the result or the element, where the call writes one; for a product and a trace the digest of the
+// scratch. A slice of over 120 words is written as its digest.
 //
 // The program ends where the input does. It also ends, with no line, at a call that is cut off, and at one with more than 5,041
 // words in a list or the result, 4,097 letters or 60,500 words of scratch.

@@ -7,7 +7,7 @@
 --               carries; the count that the product call answers; the run of a sheet, at once and by turns, and what is printed for it; a
 --               pairing, the coefficient of the unit in the product, and the word that the call for the pairing gives; a trace, and the
 --               word that the call for the trace gives, with the scratch that it leaves
---   table       the marked cases, in the documents' order
+--   table       the marked cases, in the documents' order, and the first traces
 use mathlib.Core.Path.{_≡_}
 use mathlib.Core.List.{List, [], _∷_, _++_, map}
 use Prim.Native.Nat.{ℕ, suc, _+_, _-_, _^_}

@@ -1,24 +1,19 @@
--- The laws of the algebra on the elements of rank m as a type, in every commutative ring: products, words, zero, and what holds of all elements because
--- it holds of multiples of basis elements. Rests on Algebra, and algebra's Laws and Delta.
-use mathlib.Core.Path.{_≡_, refl, sym, ap, _∙_, subst}
+-- The laws of the algebra on the elements of rank m as a type, in every commutative ring: products, words and zero. Rests on Algebra, and algebra's Elements
+-- and Laws.
+use mathlib.Core.Path.{_≡_, refl, sym, ap, _∙_}
 use mathlib.Core.List.{List, [], _∷_}
 use Prim.Native.Nat.{ℕ}
 use Rattle.ring.specs.Ring.{Ops, Ring}
 use Rattle.ring.proofs.Ring.{add-zero, zero-mul}
-use Rattle.lists.specs.Lists.{All}
-use Rattle.lists.proofs.All.{all-member}
-use Rattle.perms.specs.Permutation.{Perm, Letter, Shortest}
+use Rattle.perms.specs.Permutation.{Letter, Shortest}
 use Rattle.perms.proofs.Reduced.{short-letter}
-use Rattle.algebra.specs.Place.{perms}
-use Rattle.algebra.specs.Element.{coefficient, sumOver, unit as unitList, T}
+use Rattle.algebra.specs.Element.{unit as unitList, T}
 use Rattle.algebra.specs.Product.{act}
 use Rattle.algebra.specs.Laws.{Laws, Distant, defined}
-use Rattle.algebra.proofs.Enumeration.{perms-perm}
-use Rattle.algebra.proofs.Elements.{has-own, has-basis, has-scale, has-plus, has-sumOver, equal-elements}
-use Rattle.algebra.proofs.Delta.{delta-sum}
+use Rattle.algebra.proofs.Elements.{has-own, has-scale, has-plus, equal-elements}
 use Rattle.algebra.proofs.Laws.{laws}
 use Rattle.algebra.proofs.Onto.{any}
-use Rattle.markov_trace.proofs.Algebra.{H, same, fit, plus, scale, zero, has-zero, base, unit, gen, total, times, acted}
+use Rattle.markov_trace.proofs.Algebra.{H, same, fit, plus, scale, zero, has-zero, base, unit, gen, times, acted}
 
 module _ (A : Type 0) (o : Ops A) (q r : A) (𝓡 : Ring A o) {m : ℕ} where
   infixl 60 _⊕_
@@ -103,25 +98,3 @@ module _ (A : Type 0) (o : Ops A) (q r : A) (𝓡 : Ring A o) {m : ℕ} where
   pub scale-zero : (c : A) → c ⊙ zero A o m ≡ zero A o m
   scale-zero c =
       let 𝟎 = zero A o m in ap (λ y. c ⊙ y) (sym (times-zero 𝟎)) ∙ sym (times-scale c 𝟎 𝟎) ∙ zero-times (c ⊙ 𝟎)
-
-  -- ---- sums of multiples of basis elements
-
-  by-basis : (x : H A m) → x ≡ total A o m (perms m) (λ v. coefficient A o (x .list) v ⊙ base A o m v)
-  unfolding total scale base
-  by-basis x = same (equal-elements A o (has-own A o (x .size))
-      (has-sumOver A o (perms m) (λ v i. has-scale A o (has-basis A o (all-member (Perm m) i (perms-perm m))) (coefficient A o (x .list) v)))
-      (λ w p. sym (delta-sum A o 𝓡 m (coefficient A o (x .list)) w p)))
-
-  -- a property of 0, of sums and of multiples of basis elements is one of all elements
-  module _ (P : H A m → Type 0) (none : P (zero A o m)) (sum : (x y : H A m) → P x → P y → P (x ⊕ y))
-      (one : (c : A) (v : List ℕ) → Perm m v → P (c ⊙ base A o m v)) where
-    over-list : (f : List ℕ → A) (s : List (List ℕ)) → All (Perm m) s → P (total A o m s (λ v. f v ⊙ base A o m v))
-    unfolding total zero plus sumOver
-    over-list f [] k = let e : zero A o m ≡ total A o m [] (λ v. f v ⊙ base A o m v) = same refl in subst P e none
-    over-list f (v ∷ s) k =
-        let g : List ℕ → H A m = λ u. f u ⊙ base A o m u in
-        let e : g v ⊕ total A o m s g ≡ total A o m (v ∷ s) g = same refl in
-        subst P e (sum (g v) (total A o m s g) (one (f v) v (k .0)) (over-list f s (k .1)))
-
-    pub over-basis : (x : H A m) → P x
-    over-basis x = subst P (sym (by-basis x)) (over-list (coefficient A o (x .list)) (perms m) (perms-perm m))

@@ -1,4 +1,4 @@
--- What is embedded from rank m in rank m + 2 commutes with T_(m+2): its words have letters up to m alone. Rests on Embedding.
+-- What is embedded from rank m in rank m + 2 commutes with T_(m+2): its words have letters up to m alone. Rests on OverBasis and Embedding.
 use mathlib.Core.Path.{_≡_, refl, sym, ap, ap₂, _∙_, subst}
 use mathlib.Core.Logic.{inl}
 use mathlib.Core.List.{List, [], _∷_}
@@ -12,7 +12,8 @@ use Rattle.algebra.specs.Place.{join}
 use Rattle.algebra.specs.Product.{act}
 use Rattle.algebra.proofs.Enumeration.{perm-join}
 use Rattle.markov_trace.proofs.Algebra.{H, same, plus, scale, unit, base, gen, times, acted}
-use Rattle.markov_trace.proofs.AlgebraLaws.{assoc, plus-times, times-plus, scale-times, times-scale, unit-times, times-unit, commute, acts, letter-acted, zero-times, times-zero, over-basis}
+use Rattle.markov_trace.proofs.AlgebraLaws.{assoc, plus-times, times-plus, scale-times, times-scale, unit-times, times-unit, commute, acts, letter-acted, zero-times, times-zero}
+use Rattle.markov_trace.proofs.OverBasis.{over-basis}
 use Rattle.markov_trace.proofs.Joins.{short-join}
 use Rattle.markov_trace.proofs.Blocks.{up}
 use Rattle.markov_trace.proofs.Embedding.{up-plus, up-scale, up-base, up-zero}
@@ -69,7 +70,7 @@ module _ (A : Type 0) (o : Ops A) (q r : A) (𝓡 : Ring A o) (m : ℕ) where
       (word-commutes (shortestWord m v) (unit A o j) (s .word) (times-unit A o q r 𝓡 t ∙ sym (unit-times A o q r 𝓡 t)))
 
   pub apart : (x : H A m) → t · ι² x ≡ ι² x · t
-  apart = over-basis A o q r 𝓡 (λ x. Commutes (ι² x))
+  apart = over-basis A o 𝓡 (λ x. Commutes (ι² x))
       (subst Commutes (sym (ap (up A o) (up-zero A o q r 𝓡 m) ∙ up-zero A o q r 𝓡 (suc m))) (times-zero A o q r 𝓡 t ∙ sym (zero-times A o q r 𝓡 t)))
       (λ x y a b. subst Commutes (sym (ap (up A o) (up-plus A o q r 𝓡 x y) ∙ up-plus A o q r 𝓡 (up A o x) (up A o y)))
       (times-plus A o q r 𝓡 t (ι² x) (ι² y) ∙ ap₂ (λ u v. u ⊕ v) a b ∙ sym (plus-times A o q r 𝓡 (ι² x) (ι² y) t)))

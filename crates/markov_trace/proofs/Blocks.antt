@@ -5,15 +5,15 @@
 --   up x          x of rank m as an element of rank m + 1
 use mathlib.Core.Path.{_≡_, refl, sym, ap, _∙_}
 use mathlib.Core.Logic.{_≢_}
-use mathlib.Core.List.{List, [], _∷_, map}
+use mathlib.Core.List.{List}
 use Prim.Native.Nat.{ℕ, zero, suc, _+_, _*_, _≤_}
 use native.Mathlib.Omega.{arith}
-use lib.ListN.{length, getD, List·getD-append}
+use lib.ListN.{length, getD, List·getD-append, getD-replicate}
 use lib.Seq.{getD-append-add}
 use Rattle.ring.specs.Ring.{Ops}
-use Rattle.lists.specs.Lists.{range}
 use Rattle.lists.specs.Numbers.{factorial}
 use Rattle.lists.specs.Blocks.{block as blockList}
+use Rattle.lists.proofs.Parts.{below-block}
 use Rattle.perms.specs.Permutation.{Perm}
 use Rattle.algebra.specs.Place.{place, join}
 use Rattle.algebra.specs.Element.{coefficient, element}
@@ -57,11 +57,6 @@ module _ (A : Type 0) (o : Ops A) where
 
   -- ---- the blocks of an embedded element
 
-  getD-zeros : {B : Type 0} (s : List B) (i : ℕ) → getD (map (λ _. o .zero) s) i (o .zero) ≡ o .zero
-  getD-zeros [] i = refl
-  getD-zeros (x ∷ s) zero = refl
-  getD-zeros (x ∷ s) (suc i) = getD-zeros s i
-
   module _ {m : ℕ} (x : H A m) where
     pub up-first : Eq m (λ u. coefficient A o (up x .list) (join m 0 u)) (coefficient A o (x .list))
     unfolding up embed coefficient
@@ -75,7 +70,8 @@ module _ (A : Type 0) (o : Ops A) where
     up-rest (suc k) l n u p =
         ap (λ i. getD (up x .list) i (o .zero)) there
         ∙ getD-append-add (x .list) _ (k * factorial (suc m) + place u) (o .zero)
-        ∙ getD-zeros (range 0 (suc m * factorial (suc m))) (k * factorial (suc m) + place u)
+        ∙ getD-replicate (suc m * factorial (suc m)) (k * factorial (suc m) + place u) (o .zero) (o .zero)
+        (omega (arith, place-below m u p, below-block k (suc m) (factorial (suc m)) n))
       where
         there : place (join m (suc k) u) ≡ length (x .list) + (k * factorial (suc m) + place u)
         there = omega (arith, place-join (suc k) u n p, x .size)

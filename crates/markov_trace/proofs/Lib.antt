@@ -5,6 +5,7 @@ pub mod Agreement
 pub mod Lengths
 pub mod Algebra
 pub mod AlgebraLaws
+pub mod OverBasis
 -- rank m in rank m + 1
 pub mod Joins
 pub mod Blocks

@@ -1,15 +1,14 @@
--- Along a map of ring operations onto the coefficients that are meant, and no others, embedded and lowered elements are elements of their rank, and the
--- trace of an element is a coefficient that is meant. Rests on Lengths and TraceMaps, and algebra's Onto and Closed.
-use mathlib.Core.Path.{subst}
+-- Along a map of ring operations onto the coefficients that are meant, and no others, an embedded element is an element of the next rank. Rests on Lengths
+-- and TraceMaps, and algebra's Onto and Closed.
 use mathlib.Core.List.{List}
 use Prim.Native.Nat.{ℕ, suc}
 use Rattle.ring.specs.Ring.{Ops, Hom}
 use Rattle.algebra.specs.Element.{Element}
 use Rattle.algebra.proofs.Onto.{any, Onto, every, elements}
 use Rattle.algebra.proofs.Closed.{mapped-element}
-use Rattle.markov_trace.specs.Trace.{embed, trace, lowered}
+use Rattle.markov_trace.specs.Trace.{embed}
 use Rattle.markov_trace.specs.Maps.{TraceMaps}
-use Rattle.markov_trace.proofs.Lengths.{embed-length, lowered-length}
+use Rattle.markov_trace.proofs.Lengths.{embed-length}
 use Rattle.markov_trace.proofs.TraceMaps.{trace-maps}
 
 module _ {A B : Type 0} {o : Ops A} {p : Ops B} {f : A → B} (H : Hom A B o p f) (q r z : A)
@@ -20,10 +19,3 @@ module _ {A B : Type 0} {o : Ops A} {p : Ops B} {f : A → B} (H : Hom A B o p f
   pub embed-element : (h : List B) → Element ok m h → Element ok (suc m) (embed B p m h)
   embed-element = every (elements s m) _ (λ h a.
       mapped-element H q r s good (suc m) (embed A o m h) (S .embed m h) (embed-length A o m h (a .size)))
-
-  pub lowered-element : (h : List B) → Element ok (suc m) h → Element ok m (lowered B p (f q) (f r) (f z) m h)
-  lowered-element = every (elements s (suc m)) _ (λ h a.
-      mapped-element H q r s good m (lowered A o q r z m h) (S .lowered m h) (lowered-length A o m h (a .size) q r z))
-
-  pub trace-good : (h : List B) → Element ok m h → ok (trace B p (f q) (f r) (f z) m h)
-  trace-good = every (elements s m) _ (λ h a. subst ok (S .trace m h) (good (trace A o q r z m h)))

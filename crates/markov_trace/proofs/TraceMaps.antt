@@ -1,8 +1,8 @@
 -- The trace, and what it is made of, commute with a map of ring operations. Rests on algebra's NestedMaps, lists' Blocks and ring's Hom.
 use mathlib.Core.Path.{_≡_, refl, sym, ap, ap₂, _∙_, fun-ext}
-use mathlib.Core.List.{List, _++_, map, map-map, map-append}
+use mathlib.Core.List.{List, _∷_, _++_, map, map-append}
 use Prim.Native.Nat.{ℕ, zero, suc, _+_, _-_, _*_}
-use lib.ListN.{getD, List·getD-map}
+use lib.ListN.{getD, replicate, List·getD-map}
 use Rattle.ring.specs.Ring.{Ops, Hom}
 use Rattle.ring.specs.Sum.{sum}
 use Rattle.ring.proofs.Hom.{hom-sum}
@@ -22,12 +22,15 @@ module _ {A B : Type 0} {o : Ops A} {p : Ops B} {f : A → B} (H : Hom A B o p f
   M : Maps A B o p f q r
   M = maps H q r
 
+  map-replicate : (n : ℕ) (a : A) → map f (replicate n a) ≡ replicate n (f a)
+  map-replicate zero a = refl
+  map-replicate (suc n) a = ap {B = List B} (λ x. f a ∷ x) (map-replicate n a)
+
   map-embed : (m : ℕ) (h : List A) → map f (embed A o m h) ≡ embed B p m (map f h)
   unfolding embed
   map-embed m h =
-      let s = range 0 (suc m * factorial (suc m)) in
-      map-append f h (map (λ _. o .zero) s)
-      ∙ ap {B = List B} (λ x. map f h ++ x) (map-map f (λ _. o .zero) s ∙ ap (λ k. map k s) (fun-ext (λ i. H .zero)))
+      let n = suc m * factorial (suc m) in
+      map-append f h (replicate n (o .zero)) ∙ ap {B = List B} (λ x. map f h ++ x) (map-replicate n (o .zero) ∙ ap (replicate n) (H .zero))
 
   map-sums : (a n : ℕ) (x : ℕ → List A) → map f (sums A o a n x) ≡ sums B p a n (λ i. map f (x i))
   unfolding sums

@@ -1,5 +1,5 @@
--- The laws of the trace hold for the integers modulo N ≥ 1, for any q, r and z, and so for words, with r = q - 1; and embedded elements, lowered elements
--- and traces are again below 2^64. Rests on Laws, TraceCarry, TraceClosed, and ring's and algebra's Modular.
+-- The laws of the trace hold for the integers modulo N ≥ 1, for any q, r and z, and so for words, with r = q - 1; and an embedded
+-- element is an element. Rests on Laws, TraceCarry, TraceClosed, and ring's and algebra's Modular.
 use mathlib.Core.List.{List}
 use Prim.Native.Nat.{ℕ, suc, _^_, _<_}
 use Rattle.ring.specs.Modular.{modular, words, Residue, residues}
@@ -8,11 +8,11 @@ use Rattle.algebra.specs.Element.{Element}
 use Rattle.algebra.specs.Product.{minusOne}
 use Rattle.algebra.proofs.Modular.{numbers, below}
 use Rattle.algebra.proofs.Onto.{any}
-use Rattle.markov_trace.specs.Trace.{embed, trace, lowered}
+use Rattle.markov_trace.specs.Trace.{embed}
 use Rattle.markov_trace.specs.Laws.{TraceLaws}
 use Rattle.markov_trace.proofs.Laws.{trace-laws}
 use Rattle.markov_trace.proofs.TraceCarry.{carry-trace}
-use Rattle.markov_trace.proofs.TraceClosed.{embed-element, lowered-element, trace-good}
+use Rattle.markov_trace.proofs.TraceClosed.{embed-element}
 
 pub modular-embed-element : (N : ℕ) → 0 < N → (m : ℕ) (h : List ℕ) → Element (λ n. n < N) m h → Element (λ n. n < N) (suc m) (embed ℕ (modular N) m h)
 modular-embed-element N pos = embed-element (number-hom N pos) (0, pos) (0, pos) (0, pos) (numbers N) (λ a. a .1)
@@ -21,12 +21,6 @@ module _ (N : ℕ) (pos : 0 < N) (m q r z : ℕ) (hq : q < N) (hr : r < N) (hz :
   pub modular-trace : TraceLaws ℕ (modular N) q r z (λ n. n < N) m
   modular-trace = carry-trace (number-hom N pos) (q, hq) (r, hr) (z, hz) (numbers N) m
       (trace-laws (Residue N) (residues N pos) (q, hq) (r, hr) (z, hz) (residues-ring N pos) any m)
-
-  pub modular-lowered-element : (h : List ℕ) → Element (λ n. n < N) (suc m) h → Element (λ n. n < N) m (lowered ℕ (modular N) q r z m h)
-  modular-lowered-element = lowered-element (number-hom N pos) (q, hq) (r, hr) (z, hz) (numbers N) (λ a. a .1) m
-
-  pub modular-trace-below : (h : List ℕ) → Element (λ n. n < N) m h → trace ℕ (modular N) q r z m h < N
-  modular-trace-below = trace-good (number-hom N pos) (q, hq) (r, hr) (z, hz) (numbers N) (λ a. a .1) m
 
 -- ---- words
 
@@ -39,9 +33,3 @@ module _ (m q z : ℕ) (hq : q < 2 ^ 64) (hz : z < 2 ^ 64) where
 
   pub word-trace : TraceLaws ℕ words q r z (λ n. n < 2 ^ 64) m
   word-trace = modular-trace (2 ^ 64) words-pos m q r z hq (below q) hz
-
-  pub word-lowered-element : {h : List ℕ} → Element (λ n. n < 2 ^ 64) (suc m) h → Element (λ n. n < 2 ^ 64) m (lowered ℕ words q r z m h)
-  word-lowered-element {h} = modular-lowered-element (2 ^ 64) words-pos m q r z hq (below q) hz h
-
-  pub word-trace-below : {h : List ℕ} → Element (λ n. n < 2 ^ 64) m h → trace ℕ words q r z m h < 2 ^ 64
-  word-trace-below {h} = modular-trace-below (2 ^ 64) words-pos m q r z hq (below q) hz h

@@ -2,15 +2,15 @@
 -- q - 1.
 --
 --   embed m h            h of rank m as an element of rank m + 1: its coefficients first, then zeros
+--   sums a n f           f(a) + f(a + 1) + .. + f(a + n)
 --   turned q r m h k     h_k T_a(m,k-1), where h_k is block k of h, of rank m + 1, and a(m, k - 1) acts through its word
 --   trace q r z m h      the trace of h of rank m. At rank 0 it is the coefficient; at rank m + 1 it is that of h_0, plus z times the sum over
 --                        k = 1 to m + 1 of that of h_k T_a(m,k-1)
---   sums a n f           f(a) + f(a + 1) + .. + f(a + n)
 --   lowered q r z m h    h_0 plus z times the sum of h_k T_a(m,k-1), for h of rank m + 1: the element of rank m that has the trace of h (in the
 --                        field's words the conditional expectation of h)
-use mathlib.Core.List.{List, _++_, map}
+use mathlib.Core.List.{List, _++_}
 use Prim.Native.Nat.{ℕ, zero, suc, _+_, _-_, _*_}
-use lib.ListN.{getD}
+use lib.ListN.{getD, replicate}
 use Rattle.ring.specs.Ring.{Ops}
 use Rattle.ring.specs.Sum.{sum}
 use Rattle.lists.specs.Lists.{range}
@@ -22,7 +22,7 @@ use Rattle.algebra.specs.Product.{act}
 
 module _ (A : Type 0) (o : Ops A) where
   unfoldable pub embed : ℕ → List A → List A
-  embed m h = h ++ map (λ _. o .zero) (range 0 (suc m * factorial (suc m)))
+  embed m h = h ++ replicate (suc m * factorial (suc m)) (o .zero)
 
   unfoldable pub sums : ℕ → ℕ → (ℕ → List A) → List A
   sums a zero f = f a

@@ -1,5 +1,5 @@
--- The call of a trace that passes its checks: the element is copied to the front of the scratch and traced there, and the scratch is cleared. Rests on ranks' Sizes,
--- element_calls' Verdicts and Calls, and word_lists' Into.
+-- The call of a trace that passes its checks: the element is copied to the front of the scratch and traced there, and the scratch is
+-- cleared. Rests on ranks' Sizes, element_calls' Verdicts and Calls, and word_lists' Into.
 use mathlib.Core.Path.{_≡_, sym, ap, _∙_}
 use mathlib.Core.List.{List, _++_}
 use Prim.Native.Nat.{ℕ, suc, _+_, _-_, _^_, _≤_, _<_}
@@ -54,7 +54,7 @@ module _ {m s : ℕ} {h w : List ℕ} (c : Checked m s h w) where
   part = length-take-le (s - 0) w (omega (arith, room)) ∙ omega (arith, size-fits, sizes .1)
 
   -- n words are cleared
-  pub need : {n : ℕ} → n ≡ scratchSize m → n ≡ needed m
+  need : {n : ℕ} → n ≡ scratchSize m → n ≡ needed m
   need e = e ∙ scratch-size-is m (sizes .0)
 
   pub enough : {n : ℕ} → n ≡ scratchSize m → n ≤ length w

@@ -12,10 +12,25 @@ use Rattle.algebra.specs.Element.{plus, scale}
 use Rattle.algebra.proofs.Lists.{plus-length, scale-length}
 use Rattle.word_lists.proofs.Loops.{plus-next, scale-next}
 
+-- ---- the sizes of the sums
+
+module _ (b k : ℕ) (x : List ℕ) (fits : k * b + b ≤ length x) where
+  first-size : length (take b x) ≡ b
+  first-size = length-take-le b x (omega arith)
+
+  pub sum-size : length (plus ℕ words (take b x) (block b k x)) ≡ b
+  sum-size = plus-length ℕ words (take b x) (block b k x) (first-size ∙ sym (block-size b k x fits)) ∙ first-size
+
+  pub fold-size : (z : ℕ) → length (plus ℕ words (take b x) (scale ℕ words z (block b k x))) ≡ b
+  fold-size z =
+      plus-length ℕ words (take b x) (scale ℕ words z (block b k x)) (first-size ∙ sym (scale-length ℕ words z (block b k x) ∙ block-size b k x fits)) ∙ first-size
+
+-- ---- the next words
+
 -- block k of x₀, which is now x; words i of it and of the first block are read at i and at j before they are overwritten
 module _ (b k i : ℕ) {j : ℕ} (x₀ x : List ℕ) (fits : k * b + b ≤ length x₀) (l : i < b) (at : j ≡ k * b + i) where
-  first-size : length (take b x₀) ≡ b
-  first-size = length-take-le b x₀ (omega arith)
+  first : length (take b x₀) ≡ b
+  first = first-size b k x₀ fits
 
   first-word : getD x i 0 ≡ getD x₀ i 0 → getD x i 0 ≡ getD (take b x₀) i 0
   first-word e = e ∙ sym (getD-take b x₀ i 0 l)
@@ -27,23 +42,10 @@ module _ (b k i : ℕ) {j : ℕ} (x₀ x : List ℕ) (fits : k * b + b ≤ lengt
   module _ (rest : (n : ℕ) → i ≤ n → getD x n 0 ≡ getD x₀ n 0) where
     pub next-sum : {v : ℕ} → v ≡ words .add (getD x i 0) (getD x j 0) → v ≡ getD (plus ℕ words (take b x₀) (block b k x₀)) i 0
     next-sum e = plus-next (take b x₀) (block b k x₀) i e (first-word (rest i (omega arith))) (block-word (rest j (omega arith)))
-        (omega (arith, first-size)) (first-size ∙ sym (block-size b k x₀ fits))
+        (omega (arith, first)) (first ∙ sym (block-size b k x₀ fits))
 
     pub next-fold : {u v : ℕ} (z : ℕ) → u ≡ words .mul z (getD x j 0) → v ≡ words .add (getD x i 0) u
         → v ≡ getD (plus ℕ words (take b x₀) (scale ℕ words z (block b k x₀))) i 0
     next-fold z eu e = plus-next (take b x₀) (scale ℕ words z (block b k x₀)) i e (first-word (rest i (omega arith)))
         (scale-next z (block b k x₀) i eu (block-word (rest j (omega arith))) (omega (arith, block-size b k x₀ fits)))
-        (omega (arith, first-size)) (first-size ∙ sym (scale-length ℕ words z (block b k x₀) ∙ block-size b k x₀ fits))
-
--- ---- the sizes of the sums
-
-module _ (b k : ℕ) (x : List ℕ) (fits : k * b + b ≤ length x) where
-  first-is : length (take b x) ≡ b
-  first-is = length-take-le b x (omega arith)
-
-  pub sum-size : length (plus ℕ words (take b x) (block b k x)) ≡ b
-  sum-size = plus-length ℕ words (take b x) (block b k x) (first-is ∙ sym (block-size b k x fits)) ∙ first-is
-
-  pub fold-size : (z : ℕ) → length (plus ℕ words (take b x) (scale ℕ words z (block b k x))) ≡ b
-  fold-size z =
-      plus-length ℕ words (take b x) (scale ℕ words z (block b k x)) (first-is ∙ sym (scale-length ℕ words z (block b k x) ∙ block-size b k x fits)) ∙ first-is
+        (omega (arith, first)) (first ∙ sym (scale-length ℕ words z (block b k x₀) ∙ block-size b k x₀ fits))

@@ -4,17 +4,18 @@
 --   Gathering p b x₀ x k   this sum stands in the place of the first block of x₀, which is now x
 use mathlib.Core.Path.{_≡_, refl, sym, ap, _∙_}
 use mathlib.Core.List.{List, _++_}
-use Prim.Native.Nat.{ℕ, zero, suc, _+_, _*_, _≤_}
-use native.Mathlib.Nat.{zero-add, zero-mul}
+use Prim.Native.Nat.{ℕ, suc, _+_, _*_, _≤_}
+use native.Mathlib.Nat.{zero-add, zero-mul, suc-mul}
 use native.Mathlib.Numerals.{add-one}
 use native.Mathlib.Omega.{arith}
 use lib.ListN.{length, take, drop, take-append-drop}
 use lib.Seq.{take-at, drop-at}
 use Rattle.lists.specs.Blocks.{block}
 use Rattle.lists.proofs.Blocks.{block-size, block-drop}
+use Rattle.lists.proofs.Parts.{fits-block}
 use Rattle.algebra.specs.Element.{plus}
-use Rattle.algebra.proofs.Lists.{plus-length}
 use Rattle.markov_trace.specs.Trace.{sums}
+use Rattle.markov_trace.proofs.Lengths.{sums-length}
 use Rattle.element_calls.specs.declared.Parameters.{Parameters}
 use Rattle.element_calls.specs.Coefficients.{ring}
 
@@ -28,12 +29,8 @@ module _ (p : Parameters) (b : ℕ) (x₀ : List ℕ) where
       ap gathered (add-one k) ∙ ap (λ (i : ℕ). plus ℕ (ring p) (gathered k) (block b i x₀)) (zero-add (suc k) ∙ sym (add-one k))
 
   gathered-size : (k : ℕ) → k * b + b ≤ length x₀ → length (gathered k) ≡ b
-  unfolding sums
-  gathered-size zero h = block-size b 0 x₀ h
-  gathered-size (suc k) h =
-      let low : length (gathered k) ≡ b = gathered-size k (omega arith) in
-      let next : length (block b (0 + suc k) x₀) ≡ b = ap (λ (i : ℕ). length (block b i x₀)) (zero-add (suc k)) ∙ block-size b (suc k) x₀ h in
-      plus-length ℕ (ring p) (gathered k) (block b (0 + suc k) x₀) (low ∙ sym next) ∙ low
+  gathered-size k h =
+      sums-length ℕ (ring p) b 0 k _ (λ i l n. block-size b i x₀ (fits-block i (suc k) b (length x₀) (omega arith) (omega (arith, suc-mul k b))))
 
   pub record Gathering (x : List ℕ) (k : ℕ) : Type 0 where
     pub value : x ≡ gathered k ++ drop b x₀

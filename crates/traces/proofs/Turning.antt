@@ -1,4 +1,4 @@
--- The blocks of an element of rank m + 1 after the first are turned, one after another. Rests on lists' Parts and Passed, and algebra's CoefficientActions.
+-- The blocks of an element of rank m + 1 after the first are turned, one after another. Rests on lists' Parts and Passed.
 --
 --   onBlock p m k y   y T_a(m,k-1), for y of rank m; y itself for k = 0
 use mathlib.Core.Path.{_≡_, refl, sym, ap, _∙_, subst}

@@ -31,7 +31,7 @@ pub(crate) fn gather_each(x: &mut [u64], b: usize, n: usize, p: Parameters)
     }
 }
 
-// z times the second block of x is added to the first.
+// z times the second block of x is added to the first. The other words stay, which is not said.
 pub(crate) fn fold(x: &mut [u64], b: usize, z: u64, p: Parameters)
     requires { ⌜ b + b ≤ length (now x) ⌝ }
     ensures { λ _. ⌜ take b (now (x .exit)) ≡ plus ℕ (ring p) (take b (now (x .entry))) (scale ℕ (ring p) z (block b 1 (now (x .entry)))) ⌝ }

@@ -36,6 +36,7 @@ fn turn_each(x: &mut [u64], m: usize, b: usize, p: Parameters)
 }
 
 // h_0 + z (h_1 + h_2 T_a(m,1) + .. + h_(m+1) T_a(m,m)) in the place of the first block of x, which has the blocks h_0, h_1, ..
+// What the other blocks then hold is not said.
 pub(crate) fn lower(x: &mut [u64], m: usize, b: usize, z: u64, p: Parameters)
     requires { ⌜ LevelPre m b (now x) ⌝ }
     ensures { λ _. ⌜ take b (now (x .exit)) ≡ lowered ℕ (ring p) (p .q) (p .r) z m (now (x .entry)) ⌝ }

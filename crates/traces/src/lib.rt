@@ -15,7 +15,8 @@ use refusals::then;
 mod blocks;
 mod levels;
 
-// The trace of x, of rank m: each turn leaves an element of one rank less, which has the same trace, in the place of x.
+// The trace of x, of rank m: each level leaves an element of one rank less, with the same trace, in the first block of x. What x
+// holds in the end is not said.
 fn traced(x: &mut [u64], m: usize, z: u64, p: Parameters) -> u64
     requires { ⌜ TracePre p m (now x) ⌝ }
     ensures { λ r. ⌜ r ≡ trace ℕ (ring p) (p .q) (p .r) z m (now (x .entry)) ⌝ }

@@ -1,4 +1,4 @@
--- The part that is lent is the element of the register, and the scratch is what its rank needs.
+-- The part that is lent is the element of the register, and the scratch suffices for its rank. Rests on Lent, machine's Put and element_calls' TraceCalls.
 use mathlib.Core.Path.{sym, ap, _∙_}
 use native.Mathlib.Nat.{le-trans}
 use native.Mathlib.Omega.{arith}
