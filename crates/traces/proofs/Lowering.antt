@@ -1,6 +1,5 @@
--- A level of the trace from its three steps: the blocks are turned, those after the first are added up in the place of the second, and z times the sum is added
--- to the first. Rests on Turning, lists' Blocks, BlockOf and Parts, algebra's
--- CoefficientActions and markov_trace's Lengths.
+-- A level of the trace from its three steps: the blocks are turned, those after the first are added up in the place of the second, and z
+-- times the sum is added to the first. Rests on Turning, lists' Blocks, BlockOf and Parts, algebra's CoefficientActions and markov_trace's Lengths.
 use mathlib.Core.Path.{_≡_, sym, ap, ap₂, _∙_}
 use mathlib.Core.List.{List, _++_}
 use Prim.Native.Nat.{ℕ, zero, suc, _+_, _-_, _*_, _≤_, _<_}
