@@ -46,6 +46,6 @@ module _ {A B : Type 0} {o : Ops A} {p : Ops B} {f : A → B} (H : Hom A B o p f
     act-value = λ j l b c. every (E m) _ (λ h e.
         sym (ap (λ x. x .value) (M .nestedAct m j l h)) ∙ ap (map f) (N .act-value j l b c h e) ∙ M .act m (cycle j l) h);
     recursion = λ l b c. every2 (E m) (E l) _ (λ h g e d. simp (M .times, M .sumOver, M .act, map-block f) at (ap (map f) (N .recursion l b c h g e d)));
-    value = λ l b. every2 (E m) (E l) _ (λ h g e d.
-        sym (ap (λ x. x .value) (M .nested m l h g)) ∙ ap (map f) (N .value l b h g e d) ∙ M .times m l h g);
+    value = λ order any l b. every2 (E m) (E l) _ (λ h g e d.
+        sym (ap (λ x. x .value) (M .nested order m l h g)) ∙ ap (map f) (N .value order any l b h g e d) ∙ M .times m l h g);
   }

@@ -40,6 +40,7 @@ pub counts : (A : Type 0) (o : Ops A) (q r : A) (ok : A → Type 0) (m : ℕ) �
 counts A o q r ok m = record {
   act-count = λ j l a b h e. together _ ∙ act-takes A o q r 1 1 m j l h a b (e .size) .took ∙ cost-c m j l;
   act-apart = λ j l a b h e. apart _ (act-takes A o q r 1 0 m j l h a b (e .size) .took) (act-takes A o q r 0 1 m j l h a b (e .size) .took);
-  count = λ l a h g e d. together _ ∙ product-takes A o q r 1 1 m l h g a (e .size) (d .size) .took ∙ costs-C m l;
-  apart = λ l a h g e d. apart _ (product-takes A o q r 1 0 m l h g a (e .size) (d .size) .took) (product-takes A o q r 0 1 m l h g a (e .size) (d .size) .took);
+  count = λ order any l a h g e d. together _ ∙ product-takes A o q r 1 1 any m l h g a (e .size) (d .size) .took ∙ costs-C m l;
+  apart = λ order any l a h g e d.
+      apart _ (product-takes A o q r 1 0 any m l h g a (e .size) (d .size) .took) (product-takes A o q r 0 1 any m l h g a (e .size) (d .size) .took);
 }

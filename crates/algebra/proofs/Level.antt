@@ -4,10 +4,11 @@ use mathlib.Core.List.{List, _++_}
 use Prim.Native.Nat.{ℕ, zero, suc, _+_, _-_, _≤_, _<_}
 use native.Mathlib.Omega.{arith}
 use Rattle.ring.specs.Ring.{Ops}
+use Rattle.lists.specs.Lists.{range}
 use Rattle.lists.specs.Numbers.{factorial}
 use Rattle.lists.specs.Blocks.{block, blocks}
 use Rattle.lists.proofs.Blocks.{blocks-add, blocks-cong}
-use Rattle.algebra.specs.Nested.{Counted, free, _⧺_, row, _⊞_, _⊠_, sumRow, part, level}
+use Rattle.algebra.specs.Nested.{Counted, free, _⧺_, row, _⊞_, _⊠_, sumAlong, part, level}
 
 pub row-value : {A : Type 0} (a n : ℕ) (f : ℕ → Counted A) → row a n f .value ≡ blocks n (λ i. f (a + i) .value)
 unfolding row blocks free _⧺_
@@ -24,7 +25,7 @@ module _ (A : Type 0) (o : Ops A) (q r : A) (f : ℕ → ℕ → List A → Coun
   pub level-blocks : (g : ℕ → List A)
       → ((k : ℕ) → k < m - j → f j l (b k) .value ≡ g k)
       → ((i : ℕ) → 1 ≤ i → i ≤ l → _⊠_ A o q (f (j - i) (l - i) (P i .value)) .value ≡ g (m - j + i - 1))
-      → _⊞_ A o (free (b (m - j))) (_⊠_ A o r (sumRow A o 1 (l - 1) P)) .value ≡ g (m - j + l)
+      → _⊞_ A o (free (b (m - j))) (_⊠_ A o r (sumAlong A o (range 1 l) P)) .value ≡ g (m - j + l)
       → ((k : ℕ) → m - j + l < k → k ≤ m → f (j - 1) l (b k) .value ≡ g k)
       → level A o q r f m j l h .value ≡ blocks (suc m) g
   unfolding level _⧺_ blocks
@@ -43,7 +44,7 @@ module _ (A : Type 0) (o : Ops A) (q r : A) (f : ℕ → ℕ → List A → Coun
       r2 : row 1 l (λ i. _⊠_ A o q (f (j - i) (l - i) (P i .value))) .value ≡ blocks l (λ i. g (m - j + i))
       r2 = row-value 1 l _ ∙ blocks-cong l _ _ (λ i n. let x : m - j + (1 + i) - 1 ≡ m - j + i = omega arith in line-2 (1 + i) (omega arith) (omega arith) ∙ ap g x)
 
-      r3 : _⊞_ A o (free (b (m - j))) (_⊠_ A o r (sumRow A o 1 (l - 1) P)) .value ≡ g (m - j + (l + 0))
+      r3 : _⊞_ A o (free (b (m - j))) (_⊠_ A o r (sumAlong A o (range 1 l) P)) .value ≡ g (m - j + (l + 0))
       r3 = let x : m - j + l ≡ m - j + (l + 0) = omega arith in line-3 ∙ ap g x
 
       r4 : row (m - j + l + 1) (j - l) (λ k. f (j - 1) l (b k)) .value ≡ blocks (j - l) (λ i. g (m - j + (l + (1 + i))))

@@ -38,7 +38,8 @@ pub mod CycleBlocks
 pub mod Proposition
 pub mod Recursion
 pub mod Level
-pub mod SumRow
+pub mod SumAlong
+pub mod Orders
 pub mod NestedAct
 pub mod Nested
 pub mod Method

@@ -1,5 +1,6 @@
--- Lengths and entries of sums and multiples, coefficient by coefficient, for any operations. Rests on lists' Range.
-use mathlib.Core.Path.{_≡_, refl, ap}
+-- Lengths and entries of sums and multiples, coefficient by coefficient, for any operations; sums are commutative and associative where those of
+-- coefficients are. Rests on lists' Range.
+use mathlib.Core.Path.{_≡_, refl, ap, ap₂}
 use mathlib.Core.List.{List, [], _∷_}
 use Prim.Native.Nat.{ℕ, zero, suc, _<_}
 use native.Mathlib.Nat.{le-of-suc-le-suc}
@@ -15,6 +16,20 @@ module _ (A : Type 0) (o : Ops A) where
   plus-length [] g e = refl
   plus-length (x ∷ h) [] e = absurd (omega arith)
   plus-length (x ∷ h) (y ∷ g) e = ap suc (plus-length h g (omega arith))
+
+  pub plus-comm : ((a b : A) → o .add a b ≡ o .add b a) → (h g : List A) → plus A o h g ≡ plus A o g h
+  unfolding plus
+  plus-comm c [] [] = refl
+  plus-comm c [] (y ∷ g) = refl
+  plus-comm c (x ∷ h) [] = refl
+  plus-comm c (x ∷ h) (y ∷ g) = ap₂ {C = List A} (λ a l. a ∷ l) (c x y) (plus-comm c h g)
+
+  pub plus-assoc : ((a b c : A) → o .add (o .add a b) c ≡ o .add a (o .add b c)) → (h g k : List A) → plus A o (plus A o h g) k ≡ plus A o h (plus A o g k)
+  unfolding plus
+  plus-assoc c [] g k = refl
+  plus-assoc c (x ∷ h) [] k = refl
+  plus-assoc c (x ∷ h) (y ∷ g) [] = refl
+  plus-assoc c (x ∷ h) (y ∷ g) (z ∷ k) = ap₂ {C = List A} (λ a l. a ∷ l) (c x y z) (plus-assoc c h g k)
 
   pub scale-length : (c : A) (h : List A) → length (scale A o c h) ≡ length h
   unfolding scale

@@ -39,5 +39,5 @@ method A o q r 𝓡 ok m = record {
   proposition = λ j l b c d h e. proposition A o q r 𝓡 m j l h b c d (e .size);
   act-value = λ j l b c h e. act-value A o q r 𝓡 m j l h b c (e .size);
   recursion = λ l b c h g e d. recursion-at A o q r 𝓡 m l h g b c (e .size) (d .size);
-  value = λ l b h g e d. value A o q r 𝓡 m l h g b (e .size) (d .size);
+  value = λ order any l b h g e d. value A o q r 𝓡 any m l h g b (e .size) (d .size);
 }

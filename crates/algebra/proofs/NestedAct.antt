@@ -1,25 +1,25 @@
--- The nested method's value of h T_a(j,l) is the definition's, in every commutative ring. Rests on Proposition, Level and SumRow.
+-- The nested method's value of h T_a(j,l) is the definition's, in every commutative ring. Rests on Proposition, Level and SumAlong.
 use mathlib.Core.Path.{_≡_, refl, sym, ap, ap₂, _∙_}
 use mathlib.Core.List.{List, [], _∷_, _++_}
 use Prim.Native.Nat.{ℕ, zero, suc, _+_, _-_, _*_, _≤_, _<_}
 use native.Mathlib.Omega.{arith}
 use lib.ListN.{length}
 use Rattle.ring.specs.Ring.{Ops, Ring}
-use Rattle.ring.specs.Sum.{sum}
 use Rattle.lists.specs.Lists.{range}
 use Rattle.lists.specs.Numbers.{factorial}
 use Rattle.lists.specs.Blocks.{block}
+use Rattle.lists.proofs.Range.{length-range, all-range}
 use Rattle.lists.proofs.Blocks.{block-length, by-blocks}
 use Rattle.perms.specs.Tower.{cycle}
 use Rattle.perms.proofs.Word.{cycle-add}
 use Rattle.algebra.specs.Element.{plus, scale, sumOver}
 use Rattle.algebra.specs.Product.{letter, act}
-use Rattle.algebra.specs.Nested.{Counted, free, _⊞_, _⊠_, sumRow, part, level, nestedAct}
+use Rattle.algebra.specs.Nested.{Counted, free, _⊞_, _⊠_, sumAlong, part, level, nestedAct}
 use Rattle.algebra.specs.Method.{Proposition3-2}
 use Rattle.algebra.proofs.CoefficientActions.{act-length}
 use Rattle.algebra.proofs.Proposition.{proposition}
 use Rattle.algebra.proofs.Level.{level-blocks}
-use Rattle.algebra.proofs.SumRow.{sumRow-value}
+use Rattle.algebra.proofs.SumAlong.{sum-value}
 
 module _ (A : Type 0) (o : Ops A) (q r : A) (𝓡 : Ring A o) where
   act-append : (m : ℕ) (x y : List ℕ) (h : List A) → act A o q r m (x ++ y) h ≡ act A o q r m y (act A o q r m x h)
@@ -76,12 +76,11 @@ module _ (A : Type 0) (o : Ops A) (q r : A) (𝓡 : Ring A o) where
         (λ k n t. ih (j - 1) l (b k) (omega arith) (omega arith) (b-length k t) ∙ sym (lines .line-4 k n t ∙ ap (λ n. act A o q r n (cycle (j - 1) l) (b k)) x))
         ∙ sym (by-blocks (factorial (suc m)) (suc (suc m)) (act A o q r (suc m) (cycle j l) h) (act-length A o q r (suc m) (cycle j l) h e))
       where
-        parts : sumRow A o 1 (l - 1) P .value ≡ sumOver A o (suc m - 1) (range 1 l) (λ i. act A o q r (suc m - 1) (cycle (j - 1) (i - 1)) (b (suc m - j + i)))
+        parts : sumAlong A o (range 1 l) P .value ≡ sumOver A o (suc m - 1) (range 1 l) (λ i. act A o q r (suc m - 1) (cycle (j - 1) (i - 1)) (b (suc m - j + i)))
         parts =
-            let x : suc (l - 1) ≡ l = omega arith in
             let y : m ≡ suc m - 1 = omega arith in
-            sumRow-value A o 𝓡 m 1 (l - 1) P _ (λ i u v. P-value i u (omega arith)) (λ i u v. t-length i u (omega arith))
-            ∙ ap₂ (λ n k. sumOver A o k (range 1 n) (λ i. act A o q r k (cycle (j - 1) (i - 1)) (b (suc m - j + i)))) x y
+            sum-value A o 𝓡 m (range 1 l) P _ (omega (arith, length-range 1 l)) (all-range _ 1 l (λ i u v. (P-value i u v, t-length i u v)))
+            ∙ ap (λ k. sumOver A o k (range 1 l) (λ i. act A o q r k (cycle (j - 1) (i - 1)) (b (suc m - j + i)))) y
 
   pub act-value : (m j l : ℕ) (h : List A) → l ≤ j → j ≤ m → length h ≡ factorial (suc m) → nestedAct A o q r m j l h .value ≡ act A o q r m (cycle j l) h
   unfolding nestedAct free cycle act factorial

@@ -6,12 +6,14 @@ use Prim.Native.Nat.{ℕ, zero, suc, _+_, _-_, _≤_, _<_}
 use native.Mathlib.Omega.{arith}
 use lib.ListN.{length}
 use Rattle.ring.specs.Ring.{Ops}
+use Rattle.lists.specs.Lists.{range}
 use Rattle.lists.specs.Numbers.{factorial}
+use Rattle.lists.specs.Sums.{onto, sumBy}
 use Rattle.lists.specs.Blocks.{block}
 use Rattle.lists.proofs.Blocks.{block-length, by-blocks}
 use Rattle.perms.specs.Permutation.{Letter}
 use Rattle.algebra.specs.Element.{plus, scale}
-use Rattle.algebra.specs.Nested.{Counted, free, _⊞_, _⊠_, sumRow, part, level, nestedAct}
+use Rattle.algebra.specs.Nested.{Counted, free, _⊞_, _⊠_, sumAlong, part, level, nestedAct}
 use Rattle.algebra.specs.Pairs.{OnPair, forward, onPairs}
 use Rattle.algebra.proofs.Level.{level-blocks}
 use Rattle.algebra.proofs.PairLists.{zipped-shorter, zipped-longer}
@@ -60,8 +62,8 @@ module _ (A : Type 0) (o : Ops A) (q r : A) where
         ∙ sym (onPairs-upper A o f m j h jm e) ∙ ap X n
     line-2 (suc (suc i)) u v = absurd (omega arith)
 
-    line-3 : _⊞_ A o (free (b a)) (_⊠_ A o r (sumRow A o 1 0 (part A o F (suc m) (suc j) h))) .value ≡ X (a + 1)
-    unfolding free part sumRow _⊞_ _⊠_
+    line-3 : _⊞_ A o (free (b a)) (_⊠_ A o r (sumAlong A o (range 1 1) (part A o F (suc m) (suc j) h))) .value ≡ X (a + 1)
+    unfolding free part sumAlong sumBy onto range _⊞_ _⊠_
     line-3 = ap (λ x. plus A o (b a) (scale A o r x)) (nested-none m _ _) ∙ sym (onPairs-lower A o f m j h jm e ∙ zipped-longer A o q r (b a) (b (a + 1)))
 
     line-4 : (k : ℕ) → a + 1 < k → k ≤ suc m → F (suc j - 1) 1 (b k) .value ≡ X k

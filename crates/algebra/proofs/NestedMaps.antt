@@ -1,15 +1,17 @@
--- The nested method commutes with a map of ring operations, value and count; so every definition does. Rests on Maps, ring's Hom and lists' Blocks.
+-- The nested method commutes with a map of ring operations, value and count; so every definition does. Rests on Maps, ring's Hom, and lists' Sums and Blocks.
 use mathlib.Core.Path.{_≡_, refl, sym, ap, ap₂, _∙_, fun-ext}
-use mathlib.Core.List.{List, map, map-append}
+use mathlib.Core.List.{List, [], map, map-append}
 use Prim.Native.Nat.{ℕ, zero, suc, _+_, _-_}
 use lib.ListN.{length, getD, length-map, List·getD-map}
 use Rattle.ring.specs.Ring.{Ops, Hom}
 use Rattle.ring.proofs.Hom.{hom-sum}
+use Rattle.lists.specs.Lists.{range}
 use Rattle.lists.specs.Numbers.{factorial}
 use Rattle.lists.specs.Blocks.{block}
+use Rattle.lists.proofs.Sums.{map-sumBy}
 use Rattle.lists.proofs.Blocks.{map-block}
 use Rattle.algebra.specs.Element.{plus, scale}
-use Rattle.algebra.specs.Nested.{both, Counted, free, onward, _⧺_, row, _⊞_, _⊠_, sumRow, part, level, nestedAct, nested}
+use Rattle.algebra.specs.Nested.{both, Counted, free, onward, _⧺_, row, _⊞_, _⊠_, sumAlong, part, level, nestedAct, nested}
 use Rattle.algebra.specs.Maps.{mapped, Maps}
 use Rattle.algebra.proofs.Maps.{map-coefficient, map-element, map-plus, map-scale, map-sumOver, map-basis, map-unit, map-T, map-minusOne, map-basisLetter, forward-along, map-onPairs, map-letter, map-act, map-times, map-power, map-pairing}
 
@@ -52,10 +54,9 @@ module _ {A B : Type 0} {o : Ops A} {p : Ops B} {f : A → B} (H : Hom A B o p f
       let e = map-scale H c (x .value) in
       λ i. record { value = e i; count = both (x .count) (record { sums = 0; products = as-long (scale A o c (x .value)) e i }) }
 
-  map-sumRow : (a n : ℕ) (x : ℕ → Counted A) → mapped f (sumRow A o a n x) ≡ sumRow B p a n (λ i. mapped f (x i))
-  unfolding sumRow
-  map-sumRow a zero x = refl
-  map-sumRow a (suc n) x = map-⊞ (sumRow A o a n x) (x (a + suc n)) ∙ ap (λ y. _⊞_ B p y (mapped f (x (a + suc n)))) (map-sumRow a n x)
+  map-sumAlong : (s : List ℕ) (x : ℕ → Counted A) → mapped f (sumAlong A o s x) ≡ sumAlong B p s (λ i. mapped f (x i))
+  unfolding sumAlong mapped free
+  map-sumAlong s x = map-sumBy (_⊞_ A o) (_⊞_ B p) (mapped f) map-⊞ (free []) s x
 
   -- ---- the method
 
@@ -87,10 +88,10 @@ module _ {A B : Type 0} {o : Ops A} {p : Ops B} {f : A → B} (H : Hom A B o p f
         line-2 : (i : ℕ) → mapped f (_⊠_ A o q (F (j - i) (l - i) (P i .value))) ≡ _⊠_ B p (f q) (G (j - i) (l - i) (Q i .value))
         line-2 i = map-⊠ q _ ∙ ap (_⊠_ B p (f q)) (e (j - i) (l - i) (P i .value) ∙ ap (λ y. G (j - i) (l - i) (y .value)) (map-part m j h i))
 
-        line-3 : mapped f (_⊞_ A o (free (block D (m - j) h)) (_⊠_ A o r (sumRow A o 1 (l - 1) P)))
-            ≡ _⊞_ B p (free (block D (m - j) (map f h))) (_⊠_ B p (f r) (sumRow B p 1 (l - 1) Q))
+        line-3 : mapped f (_⊞_ A o (free (block D (m - j) h)) (_⊠_ A o r (sumAlong A o (range 1 l) P)))
+            ≡ _⊞_ B p (free (block D (m - j) (map f h))) (_⊠_ B p (f r) (sumAlong B p (range 1 l) Q))
         line-3 = map-⊞ _ _ ∙ ap₂ (_⊞_ B p) (map-free f _ ∙ ap free (map-block f D (m - j) h))
-            (map-⊠ r _ ∙ ap (_⊠_ B p (f r)) (map-sumRow 1 (l - 1) P ∙ ap (sumRow B p 1 (l - 1)) (fun-ext (map-part m j h))))
+            (map-⊠ r _ ∙ ap (_⊠_ B p (f r)) (map-sumAlong (range 1 l) P ∙ ap (sumAlong B p (range 1 l)) (fun-ext (map-part m j h))))
 
   module _ (q r : A) where
     map-nestedAct : (m j l : ℕ) (h : List A) → mapped f (nestedAct A o q r m j l h) ≡ nestedAct B p (f q) (f r) m j l (map f h)
@@ -99,15 +100,15 @@ module _ {A B : Type 0} {o : Ops A} {p : Ops B} {f : A → B} (H : Hom A B o p f
     map-nestedAct (suc m) j zero h = map-free f h
     map-nestedAct (suc m) j (suc l) h = map-level (nestedAct A o q r m) (nestedAct B p (f q) (f r) m) (map-nestedAct m) q r (suc m) j (suc l) h
 
-    map-nested : (m l : ℕ) (h g : List A) → mapped f (nested A o q r m l h g) ≡ nested B p (f q) (f r) m l (map f h) (map f g)
+    map-nested : (order : ℕ → List ℕ) (m l : ℕ) (h g : List A) → mapped f (nested A o q r order m l h g) ≡ nested B p (f q) (f r) order m l (map f h) (map f g)
     unfolding nested
-    map-nested m zero h g =
+    map-nested order m zero h g =
         map-⊠ _ (free h) ∙ ap₂ (_⊠_ B p) (sym (List·getD-map f g 0 (o .zero)) ∙ ap (getD (map f g) 0) (H .zero)) (map-free f h)
-    map-nested m (suc l) h g = map-sumRow 0 (suc l) _ ∙ ap (sumRow B p 0 (suc l)) (fun-ext (λ k.
+    map-nested order m (suc l) h g = map-sumAlong (order (suc l)) _ ∙ ap (sumAlong B p (order (suc l))) (fun-ext (λ k.
         let g' = block (factorial (suc l)) k g in
-        map-onward f (nested A o q r m l h g') _ (nestedAct B p (f q) (f r) m (suc l) k) (map-nestedAct m (suc l) k)
+        map-onward f (nested A o q r order m l h g') _ (nestedAct B p (f q) (f r) m (suc l) k) (map-nestedAct m (suc l) k)
         ∙ ap (λ x. onward x (nestedAct B p (f q) (f r) m (suc l) k))
-        (map-nested m l h g' ∙ ap (nested B p (f q) (f r) m l (map f h)) (map-block f (factorial (suc l)) k g))))
+        (map-nested order m l h g' ∙ ap (nested B p (f q) (f r) order m l (map f h)) (map-block f (factorial (suc l)) k g))))
 
     pub maps : Maps A B o p f q r
     maps = record {
@@ -131,7 +132,7 @@ module _ {A B : Type 0} {o : Ops A} {p : Ops B} {f : A → B} (H : Hom A B o p f
       pairing = map-pairing H q;
       counted-sum = map-⊞;
       counted-multiple = map-⊠;
-      sumRow = map-sumRow;
+      sumAlong = map-sumAlong;
       part = λ F G e. map-part F G e;
       level = λ F G e. map-level F G e q r;
       nestedAct = map-nestedAct;

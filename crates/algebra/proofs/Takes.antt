@@ -1,16 +1,19 @@
--- How many coefficients a counted list has, and what its operations weigh, step by step. Rests on Lists.
+-- How many coefficients a counted list has, and what its operations weigh, step by step. Rests on Lists, and lists' Sums.
 --
 --   weigh s p n       the operations n where a ring sum counts s and a ring product p
 --   Takes s p B n x   x has B coefficients and took n, where a ring sum counts s and a ring product p
-use mathlib.Core.Path.{_≡_, refl, sym, ap, ap₂, _∙_, subst}
-use mathlib.Core.List.{List, []}
-use Prim.Native.Nat.{ℕ, zero, suc, _+_, _*_, _≤_, _<_}
+use mathlib.Core.Path.{_≡_, refl, sym, ap, ap₂, _∙_}
+use mathlib.Core.List.{List, [], _∷_}
+use Prim.Native.Nat.{ℕ, zero, suc, _+_, _-_, _*_, _<_}
 use native.Mathlib.Omega.{arith}
 use lib.ListN.{length, length-append}
 use Rattle.ring.specs.Ring.{Ops}
+use Rattle.lists.specs.Lists.{All}
 use Rattle.lists.specs.Numbers.{series}
+use Rattle.lists.specs.Sums.{onto, sumBy}
+use Rattle.lists.proofs.Sums.{onto-more}
 use Rattle.algebra.specs.Element.{plus, scale}
-use Rattle.algebra.specs.Nested.{Count, both, Counted, free, onward, _⧺_, row, _⊞_, _⊠_, sumRow}
+use Rattle.algebra.specs.Nested.{Count, both, Counted, free, onward, _⧺_, row, _⊞_, _⊠_, sumAlong}
 use Rattle.algebra.proofs.Lists.{plus-length, scale-length}
 
 unfoldable pub weigh : ℕ → ℕ → Count → ℕ
@@ -68,9 +71,18 @@ module _ (A : Type 0) (o : Ops A) {s p : ℕ} where
       e : length (scale A o c (x .value)) ≡ B
       e = scale-length A o c (x .value) ∙ t .size
 
-  pub takes-sum : (B a n : ℕ) (f : ℕ → Counted A) (k : ℕ → ℕ) → ((i : ℕ) → i ≤ n → Takes s p B (k (a + i)) (f (a + i)))
-      → Takes s p B (series a (suc n) k + n * (s * B)) (sumRow A o a n f)
-  unfolding sumRow series
-  takes-sum B a zero f k t = let e : a + 0 ≡ a = omega arith in
-      takes-as refl (omega arith) (subst (λ (x : ℕ). Takes s p B (k (a + 0)) (f x)) e (t 0 (omega arith)))
-  takes-sum B a (suc n) f k t = takes-as refl (omega arith) (takes-plus (takes-sum B a n f k (λ i l. t i (omega arith))) (t (suc n) (omega arith)))
+  takes-onto : (B : ℕ) {n : ℕ} {x : Counted A} (t : List ℕ) (f : ℕ → Counted A) (k : ℕ → ℕ) → Takes s p B n x → All (λ i. Takes s p B (k i) (f i)) t
+      → Takes s p B (onto _+_ n t k + length t * (s * B)) (onto (_⊞_ A o) x t f)
+  unfolding onto
+  takes-onto B [] f k u v = takes-as refl (omega arith) u
+  takes-onto B {n} (i ∷ t) f k u v =
+      takes-as refl (omega (arith, onto-more (n + k i) (s * B) t k)) (takes-onto B t f k (takes-plus u (v .0)) (v .1))
+
+  -- at least one
+  pub takes-sum : (B : ℕ) (t : List ℕ) (f : ℕ → Counted A) (k : ℕ → ℕ) → 0 < length t → All (λ i. Takes s p B (k i) (f i)) t
+      → Takes s p B (sumBy _+_ 0 t k + (length t - 1) * (s * B)) (sumAlong A o t f)
+  unfolding sumAlong sumBy
+  takes-sum B [] f k some v = absurd (omega arith)
+  takes-sum B (i ∷ t) f k some v =
+      let e : length t ≡ suc (length t) - 1 = omega arith in
+      takes-as refl (ap (λ j. onto _+_ (k i) t k + j * (s * B)) e) (takes-onto B t f k (v .0) (v .1))

@@ -12,7 +12,7 @@ use Rattle.ring.specs.Sum.{sum}
 use Rattle.algebra.specs.Element.{coefficient, element, plus, scale, sumOver, basis, unit, T}
 use Rattle.algebra.specs.Product.{minusOne, basisLetter, letter, act, times}
 use Rattle.algebra.specs.Pairs.{OnPair, forward, onPairs}
-use Rattle.algebra.specs.Nested.{Counted, _⊞_, _⊠_, sumRow, part, level, nestedAct, nested}
+use Rattle.algebra.specs.Nested.{Counted, _⊞_, _⊠_, sumAlong, part, level, nestedAct, nested}
 use Rattle.algebra.specs.Pairing.{power, pairing}
 
 unfoldable pub mapped : {A B : Type 0} → (A → B) → Counted A → Counted B
@@ -43,10 +43,10 @@ pub record Maps (A B : Type 0) (o : Ops A) (p : Ops B) (f : A → B) (q r : A) :
   pub pairing : (m : ℕ) (a b : List A) → f (pairing A o q m a b) ≡ pairing B p (f q) m (map f a) (map f b)
   pub counted-sum : (x y : Counted A) → mapped f (_⊞_ A o x y) ≡ _⊞_ B p (mapped f x) (mapped f y)
   pub counted-multiple : (c : A) (x : Counted A) → mapped f (_⊠_ A o c x) ≡ _⊠_ B p (f c) (mapped f x)
-  pub sumRow : (a n : ℕ) (x : ℕ → Counted A) → mapped f (sumRow A o a n x) ≡ sumRow B p a n (λ i. mapped f (x i))
+  pub sumAlong : (s : List ℕ) (x : ℕ → Counted A) → mapped f (sumAlong A o s x) ≡ sumAlong B p s (λ i. mapped f (x i))
   pub part : (F : ℕ → ℕ → List A → Counted A) (G : ℕ → ℕ → List B → Counted B) → ((j l : ℕ) (x : List A) → mapped f (F j l x) ≡ G j l (map f x))
       → (m j : ℕ) (h : List A) (i : ℕ) → mapped f (part A o F m j h i) ≡ part B p G m j (map f h) i
   pub level : (F : ℕ → ℕ → List A → Counted A) (G : ℕ → ℕ → List B → Counted B) → ((j l : ℕ) (x : List A) → mapped f (F j l x) ≡ G j l (map f x))
       → (m j l : ℕ) (h : List A) → mapped f (level A o q r F m j l h) ≡ level B p (f q) (f r) G m j l (map f h)
   pub nestedAct : (m j l : ℕ) (h : List A) → mapped f (nestedAct A o q r m j l h) ≡ nestedAct B p (f q) (f r) m j l (map f h)
-  pub nested : (m l : ℕ) (h g : List A) → mapped f (nested A o q r m l h g) ≡ nested B p (f q) (f r) m l (map f h) (map f g)
+  pub nested : (order : ℕ → List ℕ) (m l : ℕ) (h g : List A) → mapped f (nested A o q r order m l h g) ≡ nested B p (f q) (f r) order m l (map f h) (map f g)

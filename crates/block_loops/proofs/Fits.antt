@@ -29,7 +29,7 @@ module _ (p : Parameters) where
   unfolding addTo
   add-not d s n = rw (same-no n) refl
 
-  pub multiple-fits : (d : List ℕ) (c : ℕ) (s : List ℕ) → length d ≡ length s → addMultiple p d c s ≡ plus ℕ (ring p) (scale ℕ (ring p) c s) d
+  pub multiple-fits : (d : List ℕ) (c : ℕ) (s : List ℕ) → length d ≡ length s → addMultiple p d c s ≡ plus ℕ (ring p) d (scale ℕ (ring p) c s)
   unfolding addMultiple
   multiple-fits d c s e = rw (same-yes e) refl
 

@@ -2,7 +2,7 @@
 --
 --   exchanging w p       a letter as an operator on pairs: formula 4.1, or its inverse, for which p has q' and q' - 1
 --   addTo p d s          d + s in the place of d
---   addMultiple p d c s  c s + d in the place of d
+--   addMultiple p d c s  d + c s in the place of d
 --   foldInto p d s       s + r d in the place of d
 --   moveDown p b x       two blocks of b coefficients: q times the second in the place of the first
 --   exchangeIn w p b x   two blocks of b coefficients, after a letter
@@ -31,7 +31,7 @@ module _ (p : Parameters) where
   addTo d s = cond (same (length d) (length s)) (plus ℕ (ring p) d s) d
 
   unfoldable pub addMultiple : (d : List ℕ) (c : ℕ) (s : List ℕ) → List ℕ
-  addMultiple d c s = cond (same (length d) (length s)) (plus ℕ (ring p) (scale ℕ (ring p) c s) d) d
+  addMultiple d c s = cond (same (length d) (length s)) (plus ℕ (ring p) d (scale ℕ (ring p) c s)) d
 
   unfoldable pub foldInto : (d s : List ℕ) → List ℕ
   foldInto d s = cond (same (length d) (length s)) (plus ℕ (ring p) s (scale ℕ (ring p) (p .r) d)) d

@@ -25,7 +25,7 @@ pub fn add_to(d: &mut [u64], s: &[u64], p: Parameters)
     }
 }
 
-// c s + d in the place of d, from the end.
+// d + c s in the place of d, from the end.
 // Example: for 2 3, the word 10 and 4 5, 2 3 becomes 42 53.
 pub fn add_multiple(d: &mut [u64], c: u64, s: &[u64], p: Parameters)
     ensures { λ _. ⌜ now (d .exit) ≡ addMultiple p (now (d .entry)) c (now (s .entry)) ⌝ }
@@ -36,7 +36,7 @@ pub fn add_multiple(d: &mut [u64], c: u64, s: &[u64], p: Parameters)
     let mut i = s.len();
     while 0 < i {
         i -= 1;
-        d[i] = ring::add(ring::mul(c, s[i]), d[i]);
+        d[i] = ring::add(d[i], ring::mul(c, s[i]));
     }
 }
 

@@ -10,7 +10,7 @@ use Rattle.refusals.specs.Refusals.{_then_}
 use Rattle.refusals.specs.declared.Verdict.{Verdict}
 use Rattle.algebra.specs.Element.{plus, scale}
 use Rattle.algebra.specs.Product.{act, times}
-use Rattle.algebra.specs.Nested.{operations, nested}
+use Rattle.algebra.specs.Nested.{operations, falling, nested}
 use Rattle.algebra.specs.Pairing.{pairing}
 use Rattle.signed_words.specs.Words.{signedAct}
 use Rattle.markov_trace.specs.Trace.{trace}
@@ -108,7 +108,7 @@ module _ (m q : ℕ) (h g result scratch : List ℕ) where
   product-cleared t = ap (λ b. b .scratch) (write-lent productChecks _ _ _ t)
 
   pub product-counts : Taken (productCall m q h g result scratch .answer)
-      → let p = parametersOf q in productCall m q h g result scratch .answer .count ≡ operations (nested ℕ (ring p) (p .q) (p .r) m m h g .count)
+      → let p = parametersOf q in productCall m q h g result scratch .answer .count ≡ operations (nested ℕ (ring p) (p .q) (p .r) falling m m h g .count)
   unfolding productCall
   product-counts t = write-count productChecks _ _ _ t
 

@@ -1,4 +1,4 @@
--- How a call ends that no check refuses, what it gives, and what a product counts. Rests on refusals' Ended and algebra's Counts.
+-- How a call ends that no check refuses, what it gives, and what a product counts. Rests on refusals' Ended, and algebra's Orders and Counts.
 use mathlib.Core.Path.{_≡_, refl, sym, ap, _∙_}
 use mathlib.Core.List.{List}
 use Prim.Native.Nat.{ℕ}
@@ -10,8 +10,9 @@ use Rattle.refusals.specs.declared.Verdict.the-variants.{Accepted, Refused}
 use Rattle.refusals.specs.declared.Answer.{Answer}
 use Rattle.refusals.proofs.Ended.{ended-refused, ended-done}
 use Rattle.algebra.specs.Element.{Element}
-use Rattle.algebra.specs.Nested.{operations, nested}
+use Rattle.algebra.specs.Nested.{operations, falling, nested}
 use Rattle.algebra.specs.Cost.{C}
+use Rattle.algebra.proofs.Orders.{falling-once}
 use Rattle.algebra.proofs.Counts.{counts}
 use Rattle.element_calls.specs.declared.Parameters.{Parameters}
 use Rattle.element_calls.specs.declared.Valued.{Valued}
@@ -86,5 +87,5 @@ module _ {A : Type 0} where
 -- ---- the count of a product
 
 pub product-counted : {m : ℕ} {h g : List ℕ} (p : Parameters) → Element (Coefficient p) m h → Element (Coefficient p) m g
-    → operations (nested ℕ (ring p) (p .q) (p .r) m m h g .count) ≡ C m m
-product-counted {m} {h} {g} p eh eg = counts ℕ (ring p) (p .q) (p .r) (Coefficient p) m .count m (omega arith) h g eh eg
+    → operations (nested ℕ (ring p) (p .q) (p .r) falling m m h g .count) ≡ C m m
+product-counted {m} {h} {g} p eh eg = counts ℕ (ring p) (p .q) (p .r) (Coefficient p) m .count falling falling-once m (omega arith) h g eh eg

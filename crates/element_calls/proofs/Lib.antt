@@ -1,6 +1,3 @@
--- letters
-pub mod LetterTests
-pub mod SignedBytes
 -- the checks
 pub mod WordChecks
 pub mod Verdicts

@@ -1,5 +1,5 @@
 -- The element calls, whole: for all inputs, what a call answers and what its lent slices then hold (document 01, "Elements and their product" and
--- "Where each thing is checked", and document 02, Tickets 1, 2 and 4).
+-- "Where each thing is checked", and document 02, Tickets 1, 2, 4 and 5).
 --
 --   rankVerdict m                 1: on the rank
 --   sizeVerdict m n               2: on an element's slice of n words
@@ -35,7 +35,7 @@ use Rattle.refusals.specs.declared.Verdict.the-variants.{Accepted, Refused}
 use Rattle.refusals.specs.declared.Answer.{Answer}
 use Rattle.algebra.specs.Element.{plus, scale}
 use Rattle.algebra.specs.Product.{act, times}
-use Rattle.algebra.specs.Nested.{operations, nested}
+use Rattle.algebra.specs.Nested.{operations, falling, nested}
 use Rattle.algebra.specs.Pairing.{pairing}
 use Rattle.signed_words.specs.Words.{isBelow, signedAct}
 use Rattle.markov_trace.specs.Trace.{trace}
@@ -123,7 +123,7 @@ productCall m q h g result scratch =
     write (rankVerdict m then sizeVerdict m (length h) then sizeVerdict m (length g) then sizeVerdict m (length result) then scratchVerdict m (length scratch))
     (record { result = result; scratch = scratch })
     (record { result = times ℕ (ring p) (p .q) (p .r) m m h g; scratch = replicate (needed m) 0 ++ drop (needed m) scratch })
-    (operations (nested ℕ (ring p) (p .q) (p .r) m m h g .count))
+    (operations (nested ℕ (ring p) (p .q) (p .r) falling m m h g .count))
 
 unfoldable pub pairingCall : (m q : ℕ) (h g : List ℕ) → Valued
 pairingCall m q h g =

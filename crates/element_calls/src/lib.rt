@@ -1,12 +1,7 @@
-// What the seven element calls check and answer: the checks, the answers, and the parameters of the algebra. What a call answers
-// and writes is defined in specs/Calls; the work itself is in `linear`, `word_actions`, `hecke`, `pairings` and `traces`.
+// What the seven element calls check, answer and write, as definitions (specs/), and what is claimed of it. The checks are in
+// `element_checks`, and the work itself in `linear`, `word_actions`, `hecke`, `pairings` and `traces`.
 
-ghost use mathlib.Core.Path.{_≡_};
-ghost use Rattle.element_calls.specs.Coefficients.{parametersOf};
 use refusals::Verdict;
-
-pub mod checks;
-pub mod signed;
 
 // The answer of a call that gives one word and counts no ring operation: the word is 0 where the call is refused.
 pub struct Valued {
@@ -18,15 +13,4 @@ pub struct Valued {
 pub struct Parameters {
     pub q: u64,
     pub r: u64,
-}
-
-// The parameters of the algebra with q, modulo 2^64.
-// Example: for q = 0, r is 2^64 - 1.
-pub fn parameters_of(q: u64) -> Parameters
-    ensures { λ p. ⌜ p ≡ parametersOf q ⌝ }
-{
-    Parameters {
-        q,
-        r: ring::add(q, 0xffff_ffff_ffff_ffff),
-    }
 }

@@ -1,5 +1,5 @@
 -- The call of a product that passes its checks: the product by the definition, its count, and zeros in the scratch. Rests on ranks' Sizes,
--- element_calls' Verdicts and Calls, nested's Fits and algebra's Modular.
+-- element_calls' Verdicts and Calls, nested's Fits, and algebra's Orders and Modular.
 use mathlib.Core.Path.{_≡_, sym, ap, _∙_}
 use mathlib.Core.List.{List, _++_}
 use Prim.Native.Nat.{ℕ, suc, _-_, _^_, _≤_, _<_}
@@ -12,9 +12,10 @@ use Rattle.refusals.specs.Refusals.{_then_, accepted}
 use Rattle.refusals.specs.declared.Verdict.the-variants.{Accepted}
 use Rattle.refusals.specs.declared.Answer.{Answer}
 use Rattle.algebra.specs.Element.{Element}
-use Rattle.algebra.specs.Nested.{operations, nested}
+use Rattle.algebra.specs.Nested.{operations, falling, nested}
 use Rattle.algebra.specs.Cost.{C}
 use Rattle.algebra.specs.Product.{times}
+use Rattle.algebra.proofs.Orders.{falling-once}
 use Rattle.algebra.proofs.Modular.{word-method}
 use Rattle.ranks.specs.Ranks.{needed, scratchSize, productCount}
 use Rattle.ranks.proofs.Sizes.{scratch-size-is, product-count-is}
@@ -66,9 +67,9 @@ module _ {m : ℕ} {h g : List ℕ} (eh : Element (λ n. n < 2 ^ 64) m h) (eg : 
 
   product-value : q < 2 ^ 64 → multiplied p₀ m m h g ≡ times ℕ (ring p₀) (p₀ .q) (p₀ .r) m m h g
   unfolding multiplied modulus
-  product-value hq = word-method m q hq .value m (omega arith) h g eh eg
+  product-value hq = word-method m q hq .value falling falling-once m (omega arith) h g eh eg
 
-  counted : operations (nested ℕ (ring p₀) (p₀ .q) (p₀ .r) m m h g .count) ≡ C m m
+  counted : operations (nested ℕ (ring p₀) (p₀ .q) (p₀ .r) falling m m h g .count) ≡ C m m
   unfolding modulus
   counted = product-counted p₀ eh eg
 

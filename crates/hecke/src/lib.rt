@@ -5,7 +5,7 @@
 
 ghost use mathlib.Core.Path.{_≡_};
 ghost use Rattle.element_calls.specs.Calls.{productCall};
-use element_calls::checks;
+use element_checks::checks;
 use refusals::Answer;
 use refusals::Verdict;
 use refusals::accepted;
@@ -45,7 +45,7 @@ pub fn product(
         left,
         right,
         m,
-        element_calls::parameters_of(q),
+        element_checks::parameters_of(q),
     );
     word_lists::clear(&mut scratch[0..need]);
     accepted(ranks::product_count(m))

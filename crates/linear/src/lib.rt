@@ -5,7 +5,7 @@
 
 ghost use mathlib.Core.Path.{_≡_};
 ghost use Rattle.element_calls.specs.Calls.{sumCall, scaleCall};
-use element_calls::checks;
+use element_checks::checks;
 use refusals::Answer;
 use refusals::Verdict;
 use refusals::accepted;

@@ -1,4 +1,4 @@
--- Lists of which each element has a property: joined lists, mapped lists, elements by index, and members. Rests on nothing here.
+-- Lists of which each element has a property: any list, a weaker property, joined lists, mapped lists, elements by index, and members. Rests on nothing here.
 use mathlib.Core.Path.{_≡_, refl, sym, ap₂, subst}
 use mathlib.Core.List.{List, [], _∷_, _++_, map, List·Memᴰ, List·Memᴰ·head, List·Memᴰ·tail}
 use Prim.Native.Nat.{ℕ, zero, suc, _<_, suc-le-suc}
@@ -8,6 +8,14 @@ use lib.ListN.{length, getD}
 use Rattle.lists.specs.Lists.{All}
 
 module _ {B : Type 0} (P : B → Type 0) where
+  pub all-any : ((x : B) → P x) → (s : List B) → All P s
+  all-any h [] = tt
+  all-any h (x ∷ s) = (h x, all-any h s)
+
+  pub all-then : (Q : B → Type 0) → ((x : B) → P x → Q x) → (s : List B) → All P s → All Q s
+  all-then Q h [] a = tt
+  all-then Q h (x ∷ s) a = (h x (a .0), all-then Q h s (a .1))
+
   pub all-append : (s t : List B) → All P s → All P t → All P (s ++ t)
   all-append [] t a b = b
   all-append (x ∷ s) t a b = (a .0, all-append s t (a .1) b)

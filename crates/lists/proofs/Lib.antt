@@ -7,6 +7,11 @@ pub mod Search
 pub mod Tally
 pub mod Range
 pub mod Series
+-- sums over a list
+pub mod Without
+pub mod Rearranged
+pub mod Reversed
+pub mod Sums
 -- parts of lists
 pub mod Blocks
 pub mod Parts

@@ -5,7 +5,7 @@ use Prim.Native.Nat.{ℕ, zero, suc, _+_, _≤_, _<_}
 use native.Mathlib.Nat.{le-of-suc-le-suc, zero-add, add-zero, suc-add, add-suc}
 use native.Mathlib.Omega.{arith}
 use lib.ListN.{length, getD}
-use Rattle.lists.specs.Lists.{same, less, bit, range, count, tally}
+use Rattle.lists.specs.Lists.{same, less, bit, range, All, count, tally}
 use Rattle.lists.proofs.Test.{SameView, is, isnt, LessView, lt, ge, same?, less?}
 
 pub length-range : (a n : ℕ) → length (range a n) ≡ n
@@ -31,6 +31,10 @@ unfolding range
 range-append a zero k = simp (zero-add, add-zero)
 range-append a (suc n) k = simp (suc-add, add-suc) (ap {B = List ℕ} (λ t. a ∷ t) (simp suc-add at (range-append (suc a) n k)))
 
+pub range-snoc : (a n : ℕ) → range a (suc n) ≡ range a n ++ ((a + n) ∷ [])
+unfolding range
+range-snoc a n = let e : suc n ≡ n + 1 = omega arith in ap (range a) e ∙ range-append a n 1
+
 pub range-shift : (d a n : ℕ) → map (λ p. p + d) (range a n) ≡ range (a + d) n
 unfolding range
 range-shift d a zero = refl
@@ -40,6 +44,11 @@ pub mem-range : {i : ℕ} (a n : ℕ) → List·Memᴰ i (range a n) → (a ≤ 
 unfolding range
 mem-range a (suc n) (List·Memᴰ·head e) = (omega arith, omega arith)
 mem-range a (suc n) (List·Memᴰ·tail t) = let h = mem-range (suc a) n t in (omega (arith, h), omega (arith, h))
+
+pub all-range : (P : ℕ → Type 0) (a n : ℕ) → ((i : ℕ) → a ≤ i → i < a + n → P i) → All P (range a n)
+unfolding range
+all-range P a zero h = tt
+all-range P a (suc n) h = (h a (omega arith) (omega arith), all-range P (suc a) n (λ i l u. h i (omega arith) (omega arith)))
 
 -- ---- a range by count
 

@@ -1,4 +1,5 @@
 pub mod Lists
 pub mod Numbers
+pub mod Sums
 pub mod Blocks
 pub mod Overwrite

@@ -3,10 +3,10 @@
 --
 --   Case        a marked case: what is given, and what the document says of it
 --   Holds c     the definitions give what the document says: the list of permutations and their places; the tower and its images; a square by the
---               product over permutations, by the nested method and as the product call's outcome; C and the count that the nested method
---               carries; the count that the product call answers; the run of a sheet, at once and by turns, and what is printed for it; a
---               pairing, the coefficient of the unit in the product, and the word that the call for the pairing gives; a trace, and the
---               word that the call for the trace gives, with the scratch that it leaves
+--               product over permutations, by the nested method in the rising and in the falling order, and as the product call's outcome; C and
+--               the counts that the nested method carries in these orders; the count that the product call answers; the run of a sheet, at once and
+--               by turns, and what is printed for it; a pairing, the coefficient of the unit in the product, and the word that the call for the
+--               pairing gives; a trace, and the word that the call for the trace gives, with the scratch that it leaves
 --   table       the marked cases, in the documents' order, and the first traces
 use mathlib.Core.Path.{_≡_}
 use mathlib.Core.List.{List, [], _∷_, _++_, map}
@@ -23,7 +23,7 @@ use Rattle.perms.specs.Tower.{towerOf, imagesOf}
 use Rattle.algebra.specs.Place.{place, perms}
 use Rattle.algebra.specs.Element.{coefficient, basis, unit}
 use Rattle.algebra.specs.Product.{minusOne, times}
-use Rattle.algebra.specs.Nested.{operations, nested}
+use Rattle.algebra.specs.Nested.{operations, rising, falling, nested}
 use Rattle.algebra.specs.Cost.{C}
 use Rattle.algebra.specs.Pairing.{pairing}
 use Rattle.markov_trace.specs.Trace.{trace}
@@ -73,9 +73,13 @@ Holds (indices m s) = (perms m ≡ map (ofWord m) s) × (map place (map (ofWord 
 Holds (images-tower w t) = (imagesOf t ≡ w) × (towerOf w ≡ t)
 Holds (square m q x h) =
     (times ℕ words q (minusOne ℕ words q) m m (basisOf m x) (basisOf m x) ≡ h)
-    × (nested ℕ words q (minusOne ℕ words q) m m (basisOf m x) (basisOf m x) .value ≡ h)
+    × (nested ℕ words q (minusOne ℕ words q) rising m m (basisOf m x) (basisOf m x) .value ≡ h)
+    × (nested ℕ words q (minusOne ℕ words q) falling m m (basisOf m x) (basisOf m x) .value ≡ h)
     × (called m q (basisOf m x) (basisOf m x) ≡ record { answer = accepted (C m m); lent = record { result = h; scratch = replicate (needed m) 0 ++ (7 ∷ []) } })
-Holds (count m l n) = (C m l ≡ n) × (operations (nested ℕ words 3 2 m l (unit ℕ words m) (unit ℕ words l) .count) ≡ n)
+Holds (count m l n) =
+    (C m l ≡ n)
+    × (operations (nested ℕ words 3 2 rising m l (unit ℕ words m) (unit ℕ words l) .count) ≡ n)
+    × (operations (nested ℕ words 3 2 falling m l (unit ℕ words m) (unit ℕ words l) .count) ≡ n)
 Holds (answered m n) = called m 3 (unit ℕ words m) (unit ℕ words m) .answer ≡ accepted n
 Holds (run s h n t) =
     (runSheet s ≡ given Accepted (record { contents = registersOf h; count = n }))

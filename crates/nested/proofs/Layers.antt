@@ -1,4 +1,4 @@
--- What `layer` requires of `times` and of `act`, and what it leaves. Rests on lists' Parts.
+-- What `layer` needs: what its call of `times` requires, that its call of `act` fits, and what it leaves. Rests on lists' Parts and cycles' Fits.
 use mathlib.Core.Path.{_≡_, ap, _∙_}
 use mathlib.Core.List.{List}
 use Prim.Native.Nat.{ℕ, _+_, _*_, _-_, _≤_}
@@ -9,7 +9,10 @@ use lib.ListN.{length, take, drop}
 use borrow.Rule.Slice.PartMut.{putMid, take-put, same-len-mid}
 use Rattle.lists.proofs.Parts.{part-block, part-size, rest-size}
 use Rattle.element_calls.specs.declared.Parameters.{Parameters}
-use Rattle.nested.specs.Steps.{acted, multiplied, ActPre, FactorsPre, TimesPre, LayerPre, LayerPost}
+use Rattle.cycles.specs.Steps.{acted, ActPre}
+use Rattle.cycles.specs.InPlace.{actIn}
+use Rattle.cycles.proofs.Fits.{act-fit}
+use Rattle.nested.specs.Steps.{multiplied, FactorsPre, TimesPre, LayerPre, LayerPost}
 
 -- n is the number of words of a block of g, s that of an element
 module _ {m l k s n : ℕ} {result scratch h g : List ℕ} (c : LayerPre m l k s n result scratch h g) where
@@ -42,7 +45,7 @@ module _ {m l k s n : ℕ} {result scratch h g : List ℕ} (c : LayerPre m l k s
     same : length scratch₁ ≡ length scratch
     same = same-len-mid s (length scratch - s) scratch v ev
 
-    pub act-pre : (y : List ℕ) → length y ≡ length result → ActPre m (l + 1) k y (take (length scratch₁ - s) (drop s scratch₁))
+    act-pre : (y : List ℕ) → length y ≡ length result → ActPre m (l + 1) k y (take (length scratch₁ - s) (drop s scratch₁))
     act-pre y ey =
         record {
           rank = c .rank;
@@ -53,11 +56,12 @@ module _ {m l k s n : ℕ} {result scratch h g : List ℕ} (c : LayerPre m l k s
               omega (arith, rest-size s scratch₁, c .enough, c .element-size, same);
         }
 
-    pub layer-whole : (p : Parameters) {y z : List ℕ} (w : List ℕ) → y ≡ multiplied p m l h lent → z ≡ acted p m (l + 1) k y
+    pub layer-whole : (p : Parameters) {y z : List ℕ} (w : List ℕ) → length y ≡ length result → y ≡ multiplied p m l h lent
+        → z ≡ actIn p m (l + 1) k (length (take (length scratch₁ - s) (drop s scratch₁))) y
         → LayerPost p m l k s n h g scratch z (putMid s (length scratch₁ - s) scratch₁ w)
-    layer-whole p w ey ez =
+    layer-whole p {y} w ly ey ez =
         record {
-          value = ez ∙ (λ i. acted p m (add-one l i) k ((ey ∙ ap (multiplied p m l h) (part-block n k g)) i));
+          value = ez ∙ act-fit p (act-pre y ly) ∙ (λ i. acted p m (add-one l i) k ((ey ∙ ap (multiplied p m l h) (part-block n k g)) i));
           keep =
               take-put s (length scratch₁ - s) scratch₁ w (omega (arith, c .enough, same))
               ∙ take-put s (length scratch - s) scratch v (omega (arith, c .enough));

@@ -1,5 +1,5 @@
--- A right factor of rank 0 or 1: h g is g_0 h, or g_0 h + (g_1 h) T_1. Rests on Summands and Pieces, algebra's NestedLetter,
--- block_loops' Fits and letters' Fits.
+-- A right factor of rank 0 or 1: h g is g_0 h, or (g_1 h) T_1 + g_0 h. Rests on Summands, cycles' LowCycles and
+-- block_loops' Fits.
 use mathlib.Core.Path.{_≡_, refl, sym, ap, ap₂, subst, _∙_}
 use mathlib.Core.List.{List}
 use Prim.Native.Nat.{ℕ, zero, suc, _+_, _*_}
@@ -7,20 +7,21 @@ use native.Mathlib.Omega.{arith}
 use lib.ListN.{length, getD, drop}
 use lib.Seq.{getD-take, getD-drop}
 use Rattle.ring.specs.Modular.{modular}
+use Rattle.lists.specs.Lists.{range}
 use Rattle.lists.specs.Numbers.{factorial}
+use Rattle.lists.specs.Sums.{onto, sumBy}
 use Rattle.lists.specs.Blocks.{block}
 use Rattle.algebra.specs.Element.{plus, scale}
-use Rattle.algebra.specs.Nested.{free, _⊠_, nested}
-use Rattle.algebra.proofs.NestedLetter.{nested-letter}
+use Rattle.algebra.specs.Nested.{rising, falling, free, _⊠_, nested}
 use Rattle.element_calls.specs.declared.Parameters.{Parameters}
 use Rattle.element_calls.specs.Coefficients.{ring}
 use Rattle.block_loops.specs.declared.Way.the-variants.{Forward}
-use Rattle.block_loops.specs.InPlace.{exchanging, addMultiple}
+use Rattle.block_loops.specs.InPlace.{addMultiple}
 use Rattle.block_loops.proofs.Fits.{multiple-fits}
 use Rattle.letters.specs.Letters.{letterIn, LetterPre}
-use Rattle.letters.proofs.Fits.{letter-fits}
-use Rattle.nested.specs.Steps.{sums, acted, multiplied, FactorsPre, TimesPre}
-use Rattle.nested.proofs.Pieces.{acted-none}
+use Rattle.cycles.specs.Steps.{sums, acted}
+use Rattle.cycles.proofs.LowCycles.{acted-none, letter-acted}
+use Rattle.nested.specs.Steps.{multiplied, FactorsPre, TimesPre}
 use Rattle.nested.proofs.Summands.{multiplied-suc}
 
 -- ---- of rank 0
@@ -47,12 +48,12 @@ first-word k g =
     getD-take 1 (drop (k * 1) g) 0 0 (omega arith) ∙ getD-drop (k * 1) g 0 0 ∙ ap (λ (n : ℕ). getD g n 0) e
 
 multiplied-one : (p : Parameters) (m : ℕ) (h g : List ℕ)
-    → multiplied p m 1 h g ≡ plus ℕ (ring p) (scale ℕ (ring p) (getD g 0 0) h) (acted p m 1 1 (scale ℕ (ring p) (getD g 1 0) h))
-unfolding sums factorial
+    → multiplied p m 1 h g ≡ plus ℕ (ring p) (acted p m 1 1 (scale ℕ (ring p) (getD g 1 0) h)) (scale ℕ (ring p) (getD g 0 0) h)
+unfolding sums sumBy onto falling rising range factorial
 multiplied-one p m h g =
     let multiple : (k : ℕ) → multiplied p m 0 h (block 1 k g) ≡ scale ℕ (ring p) (getD g k 0) h =
     λ k. sym (multiplied-zero p m 0 h (block 1 k g) refl) ∙ ap (λ (c : ℕ). scale ℕ (ring p) c h) (first-word k g) in
-    multiplied-suc p m 0 h g ∙ ap₂ (plus ℕ (ring p)) (acted-none p m 1 _ ∙ multiple 0) (ap (acted p m 1 1) (multiple 1))
+    multiplied-suc p m 0 h g ∙ ap₂ (plus ℕ (ring p)) (ap (acted p m 1 1) (multiple 1)) (acted-none p m 1 _ ∙ multiple 0)
 
 module _ {m l : ℕ} {result scratch h g : List ℕ} (one : l ≡ 1) (c : TimesPre m l result scratch h g) where
   pub one-pre : FactorsPre m 1 result h g
@@ -60,10 +61,6 @@ module _ {m l : ℕ} {result scratch h g : List ℕ} (one : l ≡ 1) (c : TimesP
 
   pub one-end : (p : Parameters) {y : List ℕ} → y ≡ multiplied p m 1 h g → y ≡ multiplied p m l h g
   one-end p e = e ∙ ap (λ (n : ℕ). multiplied p m n h g) (sym one)
-
-letter-acted : (p : Parameters) {m : ℕ} {y : List ℕ} → LetterPre m 1 y → letterIn Forward p m 1 y ≡ acted p m 1 1 y
-unfolding exchanging acted
-letter-acted p {m} {y} d = letter-fits Forward p d ∙ sym (nested-letter ℕ (ring p) (p .q) (p .r) m 1 y (d .letter) (d .size))
 
 module _ {m : ℕ} {result h g : List ℕ} (c : FactorsPre m 1 result h g) where
   letter-pre : {y : List ℕ} → length y ≡ length result → LetterPre m 1 y
@@ -74,4 +71,4 @@ module _ {m : ℕ} {result h g : List ℕ} (c : FactorsPre m 1 result h g) where
   one-whole p {z = z} ly ey lz ez e =
       let second = ez ∙ letter-acted p (letter-pre ly) ∙ ap (acted p m 1 1) ey in
       e ∙ multiple-fits p z (getD g 0 0) h (lz ∙ ly ∙ c .result ∙ sym (c .left))
-      ∙ ap (plus ℕ (ring p) (scale ℕ (ring p) (getD g 0 0) h)) second ∙ sym (multiplied-one p m h g)
+      ∙ ap (λ (x : List ℕ). plus ℕ (ring p) x (scale ℕ (ring p) (getD g 0 0) h)) second ∙ sym (multiplied-one p m h g)

@@ -6,7 +6,6 @@ ghost use lib.ListN.{length};
 ghost use Rattle.nested.specs.InPlace.{productFits, productIn};
 use element_calls::Parameters;
 
-mod action;
 mod blocks;
 mod multiply;
 

@@ -2,13 +2,12 @@
 
 ghost use mathlib.Core.Path.{_≡_};
 ghost use Rattle.nested.specs.Steps.{multiplied, FactorsPre, TimesPre, LayerPre, LayerPost};
-use crate::action;
 use crate::blocks;
 use block_loops::Way;
 use element_calls::Parameters;
 
-// h g in the place of result, for h of rank m and g of rank l. The sum of the first k summands, one for each block of g, is in
-// the first words of scratch.
+// h g in the place of result, for h of rank m and g of rank l: the sum of a part for each block of g, from the last block to
+// the first. The sum of the parts so far is in the first words of scratch; the last part needs no action, and stays in result.
 pub(crate) fn times(
     result: &mut [u64],
     scratch: &mut [u64],
@@ -32,15 +31,17 @@ pub(crate) fn times(
     let size = ranks::size(m);
     let lower = l - 1;
     let part = ranks::size(lower);
-    for k in 0..l {
-        layer(result, scratch, h, g, m, lower, k, size, part, p);
-        blocks::collect(scratch, result, size, 0, k, p);
-    }
     layer(result, scratch, h, g, m, lower, l, size, part, p);
+    word_lists::load(&mut scratch[0..size], result, 0);
+    for i in 1..l {
+        layer(result, scratch, h, g, m, lower, l - i, size, part, p);
+        block_loops::add_to(&mut scratch[0..size], result, p);
+    }
+    layer(result, scratch, h, g, m, lower, 0, size, part, p);
     blocks::finish(result, scratch, p);
 }
 
-// h g in the place of result, for g of rank 1: g_0 h + (g_1 h) T_1.
+// h g in the place of result, for g of rank 1: (g_1 h) T_1 + g_0 h.
 fn times_one(result: &mut [u64], h: &[u64], g: &[u64], m: usize, p: Parameters)
     requires { ⌜ FactorsPre m 1 (now result) (now h) (now g) ⌝ }
     ensures { λ _. ⌜ now (result .exit) ≡ multiplied p m 1 (now (h .entry)) (now (g .entry)) ⌝ }
@@ -70,5 +71,5 @@ fn layer(
     let at = k * part;
     let end = at + part;
     times(result, &mut scratch[size..], h, &g[at..end], m, l, p);
-    action::act(result, &mut scratch[size..], m, l + 1, k, p);
+    cycles::act(result, &mut scratch[size..], m, l + 1, k, p);
 }

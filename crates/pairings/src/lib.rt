@@ -7,7 +7,7 @@ ghost use Rattle.algebra.specs.Pairing.{pairing};
 ghost use Rattle.element_calls.specs.Calls.{pairingCall};
 ghost use Rattle.pairings.specs.Walk.{PairPre};
 use element_calls::Valued;
-use element_calls::checks;
+use element_checks::checks;
 use refusals::Verdict;
 use refusals::then;
 

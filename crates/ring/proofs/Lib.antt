@@ -2,7 +2,6 @@ pub mod Ring
 pub mod Sum
 pub mod Combination
 pub mod Rearranged
-pub mod Reversed
 pub mod OwnInverse
 pub mod Hom
 pub mod Modular

@@ -1,11 +1,13 @@
 -- For every N ≥ 1 the residues modulo N are a commutative ring, and taking the number of a residue is a map of operations to modular N.
--- So it is for words, at N = 2^64. Rests on the kit's laws of numbers.
+-- So it is for words, at N = 2^64. Sums modulo N are commutative and associative on all numbers. Rests on the kit's laws of numbers and lists' Rearranged.
 use mathlib.Core.Path.{_≡_, refl, sym, ap, _∙_}
 use mathlib.Core.HLevel.{Σ-prop-path, prop→set, Σ-set}
 use Prim.Native.Nat.{ℕ, _+_, _-_, _*_, _/_, _%_, _^_, _<_}
 use native.Mathlib.Bridge.{le-prop}
 use native.Mathlib.Nat.{ℕ-set, mod-lt, mod-eq-of-lt, mod-add-mod, add-mod-mod, mod-self, add-assoc, add-comm, mul-comm, mul-assoc, mul-add, add-mul-mod-self-right, mod-add-div', zero-add, one-mul}
 use native.Mathlib.Omega.{arith}
+use Rattle.lists.specs.Sums.{Adds}
+use Rattle.lists.proofs.Rearranged.{adds-all}
 use Rattle.ring.specs.Ring.{Ring, Hom}
 use Rattle.ring.specs.Modular.{modular, words, Residue, number, residues}
 
@@ -26,6 +28,10 @@ module _ (N : ℕ) where
 
   add-assoc-mod : (a b c : ℕ) → ((a + b) % N + c) % N ≡ (a + (b + c) % N) % N
   add-assoc-mod a b c = mod-add-mod (a + b) N c ∙ reduced (add-assoc a b c) ∙ sym (add-mod-mod a (b + c) N)
+
+  pub adds-modular : Adds (modular N .add) (λ x. Unit {0})
+  unfolding modular
+  adds-modular = adds-all (λ a b. reduced (add-comm a b)) add-assoc-mod
 
   neg-add-mod : 0 < N → (a : ℕ) → ((N - a % N) % N + a) % N ≡ 0
   neg-add-mod pos a = sym (add-mod-mod ((N - a % N) % N) a N) ∙ mod-add-mod (N - a % N) N (a % N) ∙ reduced back ∙ mod-self N

@@ -8,10 +8,11 @@ use Prim.Native.Nat.{ℕ, zero, suc, _<_}
 use native.Mathlib.Nat.{le-of-suc-le-suc}
 use native.Mathlib.Omega.{arith}
 use lib.ListN.{length, getD, length-map, List·getD-map}
+use Rattle.lists.specs.Sums.{Rearranged}
 use Rattle.ring.specs.Ring.{Ops, Ring}
 use Rattle.ring.specs.Sum.{sum}
 use Rattle.ring.proofs.Sum.{sum-map}
-use Rattle.ring.proofs.Rearranged.{Rearranged, sum-rearranged}
+use Rattle.ring.proofs.Rearranged.{sum-rearranged}
 
 pub record Enumerated {B : Type 0} (t : List B) (P : B → Type 0) (at : B → ℕ) (d : B) : Type 0 where
   pub each : (i : ℕ) → i < length t → P (getD t i d)

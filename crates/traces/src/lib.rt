@@ -8,7 +8,8 @@ ghost use Rattle.element_calls.specs.Coefficients.{ring};
 ghost use Rattle.traces.specs.Steps.{TracePre};
 use element_calls::Parameters;
 use element_calls::Valued;
-use element_calls::checks;
+use element_checks::checks;
+use element_checks::parameters_of;
 use refusals::Verdict;
 use refusals::then;
 
@@ -48,7 +49,7 @@ pub fn trace(m: usize, q: u64, z: u64, element: &[u64], scratch: &mut [u64]) -> 
     }
     let size = ranks::size(m);
     word_lists::load(&mut scratch[0..size], element, 0);
-    let value = traced(&mut scratch[0..size], m, z, element_calls::parameters_of(q));
+    let value = traced(&mut scratch[0..size], m, z, parameters_of(q));
     let need = ranks::scratch_size(m);
     word_lists::clear(&mut scratch[0..need]);
     Valued {

@@ -14,8 +14,8 @@ ghost use Rattle.element_calls.specs.Calls.{actWordCall, actSignedWordCall};
 ghost use Rattle.word_actions.specs.Steps.{signedLettered, signedActed, LettersPre, SignedLetterPre, SignedLettersPre};
 use block_loops::Way;
 use element_calls::Parameters;
-use element_calls::checks;
-use element_calls::signed;
+use element_checks::checks;
+use element_checks::signed;
 use refusals::Answer;
 use refusals::Verdict;
 use refusals::accepted;
@@ -36,7 +36,7 @@ pub fn act_word(m: usize, q: u64, word: &[u8], element: &mut [u64]) -> Answer
     if let Verdict::Refused(why) = checked {
         return refused(why);
     }
-    act_letters(element, word, m, element_calls::parameters_of(q));
+    act_letters(element, word, m, element_checks::parameters_of(q));
     answer_of_letters(word.len(), m)
 }
 
@@ -52,7 +52,7 @@ pub fn act_signed_word(m: usize, q: u64, word: &[i8], element: &mut [u64]) -> An
     if let Verdict::Refused(why) = checked {
         return refused(why);
     }
-    let p = element_calls::parameters_of(q);
+    let p = element_checks::parameters_of(q);
     let back = signed::inverse_parameters(q, word);
     act_signed_letters(element, word, m, p, back);
     answer_of_letters(word.len(), m)

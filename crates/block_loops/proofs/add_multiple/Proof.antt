@@ -14,7 +14,7 @@ use Rattle.block_loops.proofs.add_multiple.Statement.{statement}
 use Rattle.block_loops.proofs.add_multiple.Tie as tie
 
 abbrev Inv-loop : tie.InvT-loop
-Inv-loop d₀ c s i₀ d i = (i ≤ length s) × WrittenFrom (plus ℕ words (scale ℕ words c s) d₀) d₀ d i
+Inv-loop d₀ c s i₀ d i = (i ≤ length s) × WrittenFrom (plus ℕ words d₀ (scale ℕ words c s)) d₀ d i
 
 abbrev μ-loop : tie.MeasureT-loop
 μ-loop d₀ c s i₀ d i = i
@@ -44,12 +44,12 @@ loop-again c =
     let at = at-loop c in let u = start at .args in
     let j = at .loop .i - 1 in
     let h = at .loop .inv .1 in
-    let multiple = scale-next (u .c) (u .s .now) j (c .before .before .mul .ensures) refl (omega arith) in
+    let multiple = scale-next (u .c) (u .s .now) j (c .before .mul .ensures) refl (omega arith) in
     let size = scale-length ℕ words (u .c) (u .s .now) in (
       omega arith,
       from-more j _ h (omega arith) (omega arith)
-          (plus-next (scale ℕ words (u .c) (u .s .now)) (u .d .now) j (c .add .ensures) multiple (h .rest j (omega arith)) (omega (arith, size))
-          (size ∙ sym (fit at))),
+          (plus-next (u .d .now) (scale ℕ words (u .c) (u .s .now)) j (c .add .ensures) (h .rest j (omega arith)) multiple (omega arith)
+          (fit at ∙ sym size)),
     )
 
 same-length : tie.Need-same-length Inv-loop μ-loop
@@ -60,12 +60,12 @@ unfolding modulus
 returns-2 c =
     let at = c .before in let u = start at .args in
     let multiple = scale ℕ words (u .c) (u .s .now) in
-    let size : length multiple ≡ length (u .d .now) = scale-length ℕ words (u .c) (u .s .now) ∙ sym (fit at) in
-    from-all _ (at .loop .inv .1) (omega arith) (plus-length ℕ words multiple (u .d .now) size ∙ size)
+    let size : length (u .d .now) ≡ length multiple = fit at ∙ sym (scale-length ℕ words (u .c) (u .s .now)) in
+    from-all _ (at .loop .inv .1) (omega arith) (plus-length ℕ words (u .d .now) multiple size)
     ∙ sym (multiple-fits (u .p) (u .d .now) (u .c) (u .s .now) (fit at))
 
 pub add-multiple-spec : {M : Type 1} → statement M
 add-multiple-spec =
     tie.close
-    (tie.spec Inv-loop μ-loop returns loop-holds (λ c. omega arith) (λ c. omega arith) (λ c. omega arith) (λ c κs. search needs) (λ c. omega arith)
-    (λ c. omega arith) (λ c κs. search needs) (λ c. omega arith) (λ c. omega arith) (λ c. omega arith) loop-again same-length returns-2)
+    (tie.spec Inv-loop μ-loop returns loop-holds (λ c. omega arith) (λ c. omega arith) (λ c. omega arith) (λ c. omega arith) (λ c. omega arith)
+    (λ c κs. search needs) (λ c κs. search needs) (λ c. omega arith) (λ c. omega arith) (λ c. omega arith) loop-again same-length returns-2)

@@ -1,4 +1,4 @@
--- In each step of the loop one letter acts on x. Rests on SignedAction, lists' All and element_calls' SignedBytes.
+-- In each step of the loop one letter acts on x. Rests on SignedAction, lists' All and element_checks' SignedBytes.
 use mathlib.Core.Path.{_≡_, sym, ap, _∙_, subst}
 use Prim.Native.Nat.{_-_, _≤_}
 use native.Mathlib.Omega.{arith}
@@ -6,7 +6,7 @@ use lib.ListN.{getD}
 use lib.IntN.{ℤ, pos}
 use Rattle.lists.proofs.All.{all-getD}
 use Rattle.signed_words.specs.Words.{SignedLetter}
-use Rattle.element_calls.proofs.SignedBytes.{byte, byte-is}
+use Rattle.element_checks.proofs.SignedBytes.{byte, byte-is}
 use Rattle.word_actions.specs.Steps.{signedLettered}
 use Rattle.word_actions.proofs.SignedAction.{SignedActing, acting-none, acting-more, acting-all}
 use Rattle.word_actions.proofs.act_signed_letters.Statement.{statement}

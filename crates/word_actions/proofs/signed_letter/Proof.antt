@@ -1,10 +1,10 @@
--- A letter below 0 goes backward, any other forward. Rests on SignedAction, letters' Fits and element_calls' SignedBytes.
+-- A letter below 0 goes backward, any other forward. Rests on SignedAction, letters' Fits and element_checks' SignedBytes.
 use mathlib.Core.Path.{_≡_, ap, _∙_}
 use Prim.Native.Nat.{ℕ}
 use native.Mathlib.Omega.{arith}
 use borrow.Author.Needs.{needs}
 use lib.IntN.{natAbs}
-use Rattle.element_calls.proofs.SignedBytes.{byte, byte-is, byte-below}
+use Rattle.element_checks.proofs.SignedBytes.{byte, byte-is, byte-below}
 use Rattle.block_loops.specs.declared.Way.the-variants.{Forward, Backward}
 use Rattle.letters.specs.Letters.{lettered, LetterPre}
 use Rattle.letters.proofs.Fits.{letter-fits}

@@ -1,17 +1,23 @@
--- The sum is made in the other order. Rests on Sums and block_loops' Fits.
-use mathlib.Core.Path.{ap, _∙_}
+-- The sum is made in the other order. Rests on block_loops' Fits, algebra's Lists and ring's Modular.
+use mathlib.Core.Path.{_≡_, ap, _∙_}
+use mathlib.Core.List.{List}
 use Prim.Native.Nat.{ℕ, _-_}
 use native.Mathlib.Nat.{sub-zero}
 use native.Mathlib.Omega.{arith}
 use borrow.Author.Needs.{needs}
 use lib.ListN.{length, take}
 use lib.Seq.{length-take-le}
+use Rattle.ring.proofs.Modular.{adds-modular}
 use Rattle.algebra.specs.Element.{plus}
-use Rattle.element_calls.specs.Coefficients.{ring}
+use Rattle.algebra.proofs.Lists as lists
+use Rattle.element_calls.specs.declared.Parameters.{Parameters}
+use Rattle.element_calls.specs.Coefficients.{modulus, ring}
 use Rattle.block_loops.proofs.Fits.{add-fits}
-use Rattle.nested.proofs.Sums.{plus-comm}
 use Rattle.nested.proofs.blocks.finish.Statement.{statement}
 use Rattle.nested.proofs.blocks.finish.Tie as tie
+
+plus-comm : (p : Parameters) (h g : List ℕ) → plus ℕ (ring p) h g ≡ plus ℕ (ring p) g h
+plus-comm p h g = lists.plus-comm ℕ (ring p) (λ a b. adds-modular (modulus p) .comm a b tt tt) h g
 
 abbrev start : tie.After-add-to → tie.Start
 start c = c .before .before .before .before .before

@@ -2,7 +2,7 @@
 use mathlib.Core.Path.{_∙_}
 use Prim.Native.Nat.{ℕ}
 use native.Mathlib.Omega.{arith}
-use Rattle.nested.proofs.Layers.{times-pre, act-pre, layer-whole}
+use Rattle.nested.proofs.Layers.{times-pre, layer-whole}
 use Rattle.nested.proofs.multiply.+layer+times.Proof.Measures.{layer-at, layer-claims}
 use Rattle.nested.proofs.multiply.layer.Reads as layer
 use Rattle.nested.proofs.multiply.+layer+times.Lts-layer as lts
@@ -24,13 +24,10 @@ module _ (t : ℕ) where
   pub times-requires : lts.Need-times-requires (layer-claims t) (layer-at t) layer.Post
   times-requires c κs = let s = start c in (omega (arith, s .pre .0), times-pre (s .pre .1))
 
-  pub act-requires : lts.Need-act-requires (layer-claims t) (layer-at t) layer.Post
-  act-requires c κs = let h = made c in act-pre (start (h .before) .pre .1) (h .times .last .1 .0) (h .times .kept .1 .0) _ (h .times .kept .0)
-
   pub same-length : lts.Need-same-length (layer-claims t) (layer-at t) layer.Post
   same-length c = let d = done c in d .act .kept .0 ∙ made (d .before) .times .kept .0
 
   pub returns : lts.Need-returns (layer-claims t) (layer-at t) layer.Post
   returns c =
       let d = done c in let h = made (d .before) in let s = start (h .before) in
-      layer-whole (s .pre .1) (h .times .last .1 .0) (h .times .kept .1 .0) (s .args .p) (d .act .last .1 .0) (h .times .ensures) (d .act .ensures)
+      layer-whole (s .pre .1) (h .times .last .1 .0) (h .times .kept .1 .0) (s .args .p) (d .act .last .1 .0) (h .times .kept .0) (h .times .ensures) (d .act .ensures)

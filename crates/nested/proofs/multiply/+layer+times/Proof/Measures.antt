@@ -4,14 +4,15 @@
 --   layer-at t, times-at t           what the function requires, where its measure is t
 --   layer-below t, times-below t     what it requires, where its measure is below t
 --   layer-claims t, times-claims t   what is claimed of the functions that it calls, where its measure is t
-use Prim.Native.Nat.{ℕ, _+_, _-_, _≤_, _<_}
+use Prim.Native.Nat.{ℕ, _+_, _-_, _<_}
 use borrow.Fn.Kinds.{In}
 use borrow.Fn.PlainCycle.{Measures, is, falls, and}
 use Rattle.nested.proofs.blocks.multiple.Reads as multiple
 use Rattle.nested.proofs.Summands.{summand, Summing}
 use Rattle.ranks.proofs.size.Reads as size
-use Rattle.nested.proofs.action.act.Reads as act
-use Rattle.nested.proofs.blocks.collect.Reads as collect
+use Rattle.cycles.proofs.act.Reads as act
+use Rattle.word_lists.proofs.load.Reads as load
+use Rattle.block_loops.proofs.add_to.Reads as add-to
 use Rattle.nested.proofs.blocks.finish.Reads as finish
 use Rattle.nested.proofs.multiply.times_one.Reads as times-one
 use Rattle.nested.proofs.multiply.layer.Reads as layer
@@ -52,14 +53,16 @@ times-claims t = (
   size.Learnt,
   layer-below t,
   layer.Post,
-  collect.Asked,
-  collect.Learnt,
+  load.Asked,
+  load.Learnt,
+  add-to.Asked,
+  add-to.Learnt,
   finish.Asked,
   finish.Learnt,
 )
 
 abbrev pub Inv : times-lts.InvT-loop
-Inv result₀ scratch₀ h g m l p size lower part k₀ result scratch k = (k ≤ l) × Summing p size (summand p m lower part h g) result₀ result scratch₀ scratch k
+Inv result₀ scratch₀ h g m l p size lower part i₀ result scratch i = Summing p size l (summand p m lower part h g) result₀ result scratch₀ scratch i
 
 abbrev pub μ : times-lts.MeasureT-loop
-μ result₀ scratch₀ h g m l p size lower part k₀ result scratch k = l - k
+μ result₀ scratch₀ h g m l p size lower part i₀ result scratch i = l - i
