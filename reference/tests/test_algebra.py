@@ -1,12 +1,13 @@
 """Document 01's sections "Elements and their product" and "The count": cases, edges, and the two methods; document 02's inverse
-letters, pairing and trace."""
+letters, pairing, trace and order of a product's parts."""
 import random
 import unittest
+from itertools import permutations as arrangements, product as every
 from math import factorial, prod
 
 from reference import algebra as a
 from reference import permutations as p
-from reference.nested import Nested, blocks
+from reference.nested import Nested, blocks, falling, rising
 from reference.tests.support import ODD, PARAMETERS, random_element, refused
 
 # z = 0 and 1 are edges
@@ -16,6 +17,11 @@ ZS = 0, 1, 5, a.WORD - 1, 0xC2B2_AE3D_27D4_EB4F
 def word_basis(m, word):
     """T_w for the permutation of a word."""
     return a.basis(p.of_word(m, word))
+
+
+def at_rank(m, g):
+    """g, of rank m or less, as an element of rank m."""
+    return g + [0] * (a.size(m) - len(g))
 
 
 class Cases(unittest.TestCase):
@@ -106,9 +112,92 @@ class Definition(unittest.TestCase):
                         self.assertEqual(nested.count, a.action_count(m, j, l))
                 for l in range(m + 1):
                     g, nested = random_element(source, l), Nested(q)
-                    whole = g + [0] * (a.size(m) - a.size(l))
-                    self.assertEqual(nested.product(m, h, l, g), a.product(m, q, h, whole))
+                    self.assertEqual(nested.product(m, h, l, g, falling), a.product(m, q, h, at_rank(m, g)))
                     self.assertEqual(nested.count, a.product_count(m, l))
+
+
+class Orders(unittest.TestCase):
+    """Document 02, Ticket 5: the parts of a product, added in any order."""
+
+    def compare(self, m, q, h, l, g, orders):
+        """Every order gives the words of the definition, C(m, l), and the same number of sums and of products."""
+        value, counts = a.product(m, q, h, at_rank(m, g)), set()
+        for order in orders:
+            nested = Nested(q)
+            self.assertEqual(nested.product(m, h, l, g, order), value)
+            self.assertEqual(nested.count, a.product_count(m, l))
+            counts.add((nested.sums, nested.products))
+        self.assertEqual(len(counts), 1)
+
+    def test_falling_and_rising(self):
+        self.assertEqual([falling(l) for l in range(4)], [[0], [1, 0], [2, 1, 0], [3, 2, 1, 0]])
+        self.assertEqual([rising(l) for l in range(4)], [[0], [0, 1], [0, 1, 2], [0, 1, 2, 3]])
+
+    def test_parts_are_added_as_they_are_listed(self):
+        """Where h is the unit, part k is g_k in block k. The product's own sums are of 6 words, the action's of 2."""
+        added = []
+
+        class Watched(Nested):
+            def add(self, h, g):
+                added.append((h, g))
+                return super().add(h, g)
+
+        Watched(3).product(2, a.unit(2), 2, [1, 2, 3, 4, 5, 6], [[0], [1, 0], [2, 0, 1]].__getitem__)
+        self.assertEqual([two for two in added if len(two[0]) == 6], [
+            ([0, 6, 0, 0, 0, 0], [5, 0, 0, 0, 0, 0]),
+            ([0, 2, 0, 0, 0, 0], [1, 0, 0, 0, 0, 0]),
+            ([0, 0, 0, 0, 5, 6], [1, 2, 0, 0, 0, 0]),
+            ([0, 4, 0, 0, 0, 0], [3, 0, 0, 0, 0, 0]),
+            ([1, 2, 0, 0, 5, 6], [0, 0, 3, 4, 0, 0])])
+
+    def test_sums_and_products_by_hand(self):
+        """At rank 1, g_0 h and g_1 h take 2 products each, T_1 takes 2 products and a sum, and the parts together 2 sums."""
+        for order in (falling, rising):
+            nested = Nested(3)
+            nested.product(1, [4, 5], 1, [6, 7], order)
+            self.assertEqual((nested.sums, nested.products), (3, 6))
+
+    def test_random_orders(self):
+        """A random order for each level, or another whenever one is asked for."""
+        source = random.Random(23)
+
+        def shuffled(l):
+            return source.sample(range(l + 1), l + 1)
+
+        for m in range(5):
+            for q in PARAMETERS:
+                h = random_element(source, m)
+                for l in range(m + 1):
+                    levels = [[shuffled(n) for n in range(l + 1)] for _ in range(3)]
+                    orders = falling, rising, shuffled, *(lists.__getitem__ for lists in levels)
+                    self.compare(m, q, h, l, random_element(source, l), orders)
+
+    def test_all_orders(self):
+        """Up to rank 3, every choice of an order for each level."""
+        source = random.Random(24)
+        for m in range(4):
+            for l in range(m + 1):
+                levels = every(*(arrangements(range(n + 1)) for n in range(l + 1)))
+                orders = (lists.__getitem__ for lists in levels)
+                self.compare(m, 3, random_element(source, m), l, random_element(source, l), orders)
+
+    def test_a_part_left_out_or_twice(self):
+        """At one level, whichever it is: other words and another count."""
+        source = random.Random(25)
+        for m in range(1, 4):
+            for q in PARAMETERS:
+                h = random_element(source, m)
+                for l in range(1, m + 1):
+                    g = random_element(source, l)
+                    value = a.product(m, q, h, at_rank(m, g))
+                    for level in range(1, l + 1):
+                        for k in falling(level):
+                            left_out = [i for i in falling(level) if i != k]
+                            for wrong in (left_out, [k, *falling(level)]):
+                                nested = Nested(q)
+                                words = nested.product(m, h, l, g, lambda n: wrong if n == level else falling(n))
+                                self.assertNotEqual(words, value)
+                                self.assertNotEqual(nested.count, a.product_count(m, l))
 
 
 class Laws(unittest.TestCase):
@@ -252,7 +341,7 @@ class Traces(unittest.TestCase):
         for m in range(1, 5):
             for q in PARAMETERS:
                 x, y = random_element(source, m - 1), random_element(source, m - 1)
-                above = [h + [0] * (a.size(m) - a.size(m - 1)) for h in (x, y)]
+                above = [at_rank(m, h) for h in (x, y)]
                 crossed = a.product(m, q, a.times_generator(m, q, above[0], m), above[1])
                 for z in ZS:
                     below = a.trace(m - 1, q, z, a.product(m - 1, q, x, y))
@@ -265,7 +354,7 @@ class Traces(unittest.TestCase):
         for m in range(1, 5):
             for q in ODD:
                 x, z = random_element(source, m - 1), source.randrange(a.WORD)
-                above, inverse = x + [0] * (a.size(m) - a.size(m - 1)), pow(q, -1, a.WORD)
+                above, inverse = at_rank(m, x), pow(q, -1, a.WORD)
                 due = (inverse * z + inverse - 1) * a.trace(m - 1, q, z, x) % a.WORD
                 self.assertEqual(a.trace(m, q, z, a.act(m, q, above, [-m])), due)
 

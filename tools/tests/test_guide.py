@@ -9,6 +9,7 @@ from pathlib import Path
 
 from reference.algebra import (act, basis, letter_count, lengths_and_inverses, pairing, permutations, product_count, size, trace,
                                unit)
+from reference.nested import Nested, falling, rising
 from reference.permutations import call_tower, standard_word, tower
 from reference.refusals import Refused
 from reference.sheet import MOST_BYTES, OPERANDS, check, printed
@@ -94,6 +95,29 @@ class Tables(unittest.TestCase):
         rows = [row(f'`{name}`', names.count(name), count, names.count(name) * count) for name, count in each.items()]
         rows.append(f'| the sheet | | | {sum(names.count(name) * count for name, count in each.items())} |')
         self.assertEqual([line for line in GUIDE.splitlines() if re.match(r'\| (`\w+` \| \d|the sheet)', line)], rows)
+
+    def test_parts_of_a_product(self):
+        """Each step's element, sums and products, and that the other order gives the same."""
+        h, g = [2, 5], [1, 4]
+        rows, nested = [], Nested(3)
+
+        def step(name, element):
+            before = (nested.sums, nested.products)
+            made = element()
+            spent = [after - was or '' for after, was in zip((nested.sums, nested.products), before)]
+            rows.append(' | '.join(['| ' + name, f'{made[0]} + {made[1]} T_1', *map(str, spent)]) + ' |')
+            return made
+
+        scaled = step('part 1: the left factor times 4', lambda: nested.scale(g[1], h))
+        part = step('and then T_1', lambda: nested.action(1, scaled, 1, 1))
+        other = step('part 0: the left factor times 1', lambda: nested.scale(g[0], h))
+        step('the two added', lambda: nested.add(part, other))
+        self.assertIn('\n'.join(rows).replace('|  |', '| |'), GUIDE)
+        self.assertIn(f'These are {nested.sums} sums and {nested.products} products, {nested.count} together', GUIDE)
+        for order in falling, rising:
+            whole = Nested(3)
+            self.assertEqual(whole.product(1, h, 1, g, order), [62, 53])
+            self.assertEqual((whole.sums, whole.products), (nested.sums, nested.products))
 
     def test_numbers_in_sentences(self):
         sentences = ' '.join(GUIDE.split())

@@ -1,4 +1,4 @@
-//! Document 01 and the first four requests of document 02 in plain Rust: an implementation that shares no code with the library,
+//! Document 01 and the first five requests of document 02 in plain Rust: an implementation that shares no code with the library,
 //! to compare the library with.
 //!
 //! The functions named here have the library's signatures. Each judges what it is given in the order of document 01's table and
