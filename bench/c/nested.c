@@ -150,7 +150,8 @@ static void cycle(word *restrict x, word *restrict work, size_t m, size_t j, siz
         cycle(x, work, m - 1, j - 1, l, a);
 }
 
-/* h g in the place of result, for h of rank m and n words and g of rank l. */
+/* h g in the place of result, for h of rank m and n words and g of rank l: the sum of a part for each block of g, from the last
+ * block to the first. */
 static void times(word *restrict result, word *restrict scratch, const word *restrict h, const word *restrict g, size_t m, size_t n,
                   size_t l, algebra a) {
     if (l == 0) {
@@ -161,11 +162,12 @@ static void times(word *restrict result, word *restrict scratch, const word *res
         add_multiple(result, g[0], h, n);
     } else {
         size_t b = factorial[l];
-        times(scratch, scratch + n, h, g, m, n, l - 1, a);
-        for (size_t k = 1; k <= l; k++) {
+        times(scratch, scratch + n, h, g + l * b, m, n, l - 1, a);
+        act(scratch, scratch + n, m, l, l, a);
+        for (size_t k = l; k-- > 0;) {
             times(result, scratch + n, h, g + k * b, m, n, l - 1, a);
             act(result, scratch + n, m, l, k, a);
-            if (k < l)
+            if (k > 0)
                 add(scratch, result, n);
             else
                 add(result, scratch, n);

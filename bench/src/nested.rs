@@ -82,17 +82,21 @@ impl Algebra {
         x[l * block..].copy_from_slice(sum);
     }
 
-    /// h g in the place of result, for h of rank m and g of rank l.
+    /// h g in the place of result, for h of rank m and g of rank l: the sum of a part for each block of g, from the last block to the
+    /// first.
     fn times(self, result: &mut [u64], scratch: &mut [u64], h: &[u64], g: &[u64], m: usize, l: usize) {
         if l == 0 {
             return scale(result, g[0], h);
         }
-        let (first, others) = g.split_at(FACTORIAL[l]);
-        self.times(result, scratch, h, first, m, l - 1);
+        let (others, last) = g.split_at(l * FACTORIAL[l]);
+        self.times(result, scratch, h, last, m, l - 1);
+        self.act(result, scratch, m, l, l);
         let (summand, scratch) = scratch.split_at_mut(h.len());
-        for (k, part) in (1..).zip(others.chunks_exact(FACTORIAL[l])) {
+        for (k, part) in others.chunks_exact(FACTORIAL[l]).enumerate().rev() {
             self.times(summand, scratch, h, part, m, l - 1);
-            self.act(summand, scratch, m, l, k);
+            if k > 0 {
+                self.act(summand, scratch, m, l, k);
+            }
             add(result, summand);
         }
     }

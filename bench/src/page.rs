@@ -18,17 +18,18 @@ const TERMS: &str = "
 ## What is compared
 
 - **library**: the call through the wrapper `rust/hecke`, with all its checks. A sheet goes through the program `run_sheet`.
-- **(a)**: the same nested method in plain Rust, `bench/src/nested.rs`, with the machine's own wrapping multiplication. It has
-  no case of its own for ranks 1 to 4, as the library has; this is why the library is the faster of the two. For towers,
-  plain Rust with the same checks, where larger images are counted in a mask of those seen, `bench/src/towers.rs`; an image list
-  is read in one pass, by the library's method. For the pairing, `bench/src/pairing.rs`: w and its inverse go down together through
-  the ranks, so that the place of the inverse takes a step for each w and no table; the library's walk is another, which carries
-  weights and ends at rank 1. For the trace, `bench/src/trace.rs`: at each level one element of a rank less, by the library's method,
-  with the letters of `bench/src/nested.rs`. For sheets, the runner of `rust/plain` by this method.
-- **C**: the same nested method in C tuned by hand, `bench/c/nested.c`, with the library's cases of their own (letters in place;
-  letters at ranks 1 to 3, and T_a(2,2) at rank 2; a right factor of rank 1), but that for letters at rank 4, and with no checks. It
-  is compiled by cc and by clang with -O3 for any x86-64 processor, as the archive is; both take part, and the faster is shown. It has
-  no signed letters. The pairing, `bench/c/pairing.c`, goes as in (a).
+- **(a)**: the same nested method in plain Rust, `bench/src/nested.rs`, with the machine's own wrapping multiplication and with the
+  parts of a product added in the library's order, from k = l down to 0. It has no case of its own for ranks 1 to 4, as the library
+  has; this is why the library is the faster of the two. For towers, plain Rust with the same checks, where larger images are
+  counted in a mask of those seen, `bench/src/towers.rs`; an image list is read in one pass, by the library's method. For the
+  pairing, `bench/src/pairing.rs`: w and its inverse go down together through the ranks, so that the place of the inverse takes a
+  step for each w and no table; the library's walk is another, which carries weights and ends at rank 1. For the trace,
+  `bench/src/trace.rs`: at each level one element of a rank less, by the library's method, with the letters of
+  `bench/src/nested.rs`. For sheets, the runner of `rust/plain` by this method.
+- **C**: the same nested method in C tuned by hand, `bench/c/nested.c`, in the library's order of parts and with its cases of their
+  own (letters in place; letters at ranks 1 to 3, and T_a(2,2) at rank 2; a right factor of rank 1), but that for letters at rank 4,
+  and with no checks. It is compiled by cc and by clang with -O3 for any x86-64 processor, as the archive is; both take part, and the
+  faster is shown. It has no signed letters. The pairing, `bench/c/pairing.c`, goes as in (a).
 - **(b)**: formula 4.4 on plain lists, `bench/src/lists.rs`: each T_v acts through its whole word, as source document 000
   counts. The places of w and ws, and the words, are in tables made before the clock starts; `rust/plain`, written to be read,
   makes words and lists anew for each v. For the pairing, its sum as document 02 writes it, with lengths and inverses in such tables.
@@ -84,10 +85,10 @@ Read off the archive, which is for any x86-64 processor:
 - A slice passes through memory, as an address and a length, and so does what finds no register. Loops over two slices are made
   twice by the compiler, for slices that overlap and for those that do not, since it is not told that they do not. The size of a
   block is a jump at each level of `level`.
-- Where a product's sum over three blocks or more begins, the library makes the first summand in the result and copies it to the
-  scratch, and C makes it there. With the same copy in C, and before there was a case for letters at rank 3, the ratios at ranks 3 to 6
-  were 1.06, 1.01, 1.03 and 1.00 in a run on another processor: the copy was most of what the library took longer. To save it, two
-  parts of one slice would have to be lent at the same time.
+- Where a product's sum over three blocks or more begins, the library makes the first summand, which is part l, in the result and
+  copies it to the scratch, and C makes it there. With the same copy in C, with parts added from 0 up to l and before there was a case
+  for letters at rank 3, the ratios at ranks 3 to 6 were 1.06, 1.01, 1.03 and 1.00 in a run on another processor: the copy was most of
+  what the library took longer. To save it, two parts of one slice would have to be lent at the same time.
 ";
 
 fn time(times: Option<&Times>) -> String {
