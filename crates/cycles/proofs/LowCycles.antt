@@ -20,7 +20,7 @@ pub letter-acted : (p : Parameters) {m j : ℕ} {x : List ℕ} → LetterPre m j
 unfolding exchanging acted
 letter-acted p {m} {j} {x} c = letter-fits Forward p c ∙ sym (nested-letter ℕ (ring p) (p .q) (p .r) m j x (c .letter) (c .size))
 
--- where `act_on_block` finds that it is one letter
+-- where it is one letter
 
 pub letter-pre : {m j l : ℕ} {x w : List ℕ} → ActPre m j l x w → l ≡ 1 → LetterPre m j x
 letter-pre c e = record { rank = c .rank; letter = record { low = omega (arith, c .within); high = c .below }; size = c .size }

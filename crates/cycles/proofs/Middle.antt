@@ -1,5 +1,5 @@
 -- The loop of `middle`: each block after the first is lent twice in one step, and between the two its part is added to the sum. Rests on Sums, and lists'
--- LentAgain, Parts, Passed and Blocks.
+-- Range, LentAgain, Parts, Passed and Blocks.
 --
 --   onBlock p m j l k y           block k, which was y, after its step; block 0 is not changed
 --   PartsDone p m j l b x₀ x w₀ w i

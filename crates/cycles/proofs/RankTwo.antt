@@ -58,7 +58,8 @@ module _ (p : Parameters) where
   -- ---- all of them
 
   six-words : (x w : List ℕ) → length x ≡ 6 → 2 ≤ length w → whole x w ≡ acted p 2 2 2 x
-  unfolding loadInto addTo exchangeIn same less exchanging acted nestedAct level part sumAlong sumBy onto range row free _⧺_ _⊞_ _⊠_ block factorial plus scale zipped exchanged
+  unfolding loadInto addTo exchangeIn same less exchanging acted nestedAct level part sumAlong sumBy onto range
+      row free _⧺_ _⊞_ _⊠_ block factorial plus scale zipped exchanged
   six-words [] w e l = absurd (omega arith)
   six-words (a ∷ []) w e l = absurd (omega arith)
   six-words (a ∷ b ∷ []) w e l = absurd (omega arith)

@@ -1,4 +1,4 @@
--- The vocabulary of a contract; no claim cites it.
+-- The vocabulary of the contract of `inverse_parameters` of `element_checks`; no claim cites it.
 --
 --   askedParameters q x     the parameters that the action of the word x of signed letters takes for its inverse letters: those of the inverse of q where
 --                           a letter is below 0 and q has an inverse, else those of q

@@ -3,11 +3,11 @@
 use mathlib.Core.Path.{_≡_, refl, sym, ap, _∙_}
 use mathlib.Core.List.{List, _++_, append-nil}
 use Prim.Native.Nat.{ℕ, zero, suc, _+_, _*_, _-_, _≤_, _<_}
-use native.Mathlib.Nat.{suc-mul, zero-mul, mul-le-mul-right, le-trans}
+use native.Mathlib.Nat.{suc-mul, mul-le-mul-right, le-trans}
 use native.Mathlib.Numerals.{add-one}
 use native.Mathlib.Omega.{arith}
 use lib.ListN.{length, take, drop, length-drop, drop-of-length-le}
-use lib.Seq.{take-at, length-take-le, take-all}
+use lib.Seq.{take-at, length-take-le}
 use borrow.Rule.Slice.PartMut.{putMid}
 use Rattle.lists.specs.Numbers.{factorial}
 use Rattle.lists.specs.Blocks.{block}
@@ -39,10 +39,6 @@ part-block b k x = let e : k * b + b - k * b ≡ b = omega arith in ap (λ (n : 
 
 pub part-size : (b k : ℕ) (x : List ℕ) → k * b + b ≤ length x → length (take (k * b + b - k * b) (drop (k * b) x)) ≡ b
 part-size b k x h = ap length (part-block b k x) ∙ block-size b k x h
-
-pub whole-block : (b : ℕ) (x : List ℕ) → length x ≡ b → block b 0 x ≡ x
-unfolding block
-whole-block b x e = ap (λ (n : ℕ). take b (drop n x)) (zero-mul b) ∙ take-all b x (omega arith)
 
 -- ---- the first b words came back as v
 

@@ -158,7 +158,8 @@ module _ (t : ℕ) where
   loop-again c =
       let z = second c in let s = summed (z .before .before .before) in let a = first s in let at = step a .before .loop in (
         within-l (step a),
-        parts-done-more (at .inv .1) (fits (step a)) (a .act-on-block .last .0) (a .act-on-block .last .1 .0) (a .act-on-block .ensures) (a .act-on-block .kept .0) (a .act-on-block .kept .1 .0)
+        parts-done-more (at .inv .1) (fits (step a)) (a .act-on-block .last .0) (a .act-on-block .last .1 .0) (a .act-on-block .ensures)
+            (a .act-on-block .kept .0) (a .act-on-block .kept .1 .0)
             (s .collect .last .0) (z .act-on-block2 .last .0) (z .act-on-block2 .last .1 .0) (enough (step a .before)) (s .collect .kept .0) (s .collect .ensures)
             (z .act-on-block2 .ensures) (z .act-on-block2 .kept .0) (z .act-on-block2 .kept .1 .0),
       )

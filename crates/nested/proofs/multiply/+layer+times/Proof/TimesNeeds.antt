@@ -65,7 +65,8 @@ module _ (t : ℕ) where
 
     same-scratch : length (c .loop .scratch) ≡ length (entry t sizes .args .scratch .now)
     same-scratch =
-        c .loop .inv .same-scratch ∙ same-len-mid 0 (sizes .before .size .result - 0) (begun t c .layer .last .1 .0) (copied t c .load .last .0) (copied t c .load .kept .0)
+        c .loop .inv .same-scratch
+        ∙ same-len-mid 0 (sizes .before .size .result - 0) (begun t c .layer .last .1 .0) (copied t c .load .last .0) (copied t c .load .kept .0)
         ∙ begun t c .layer .kept .1 .0
 
     size-now : length (c .loop .result) ≡ sizes .before .size .result

@@ -18,7 +18,7 @@ module _ (t : ℕ) where
   abbrev pub start : lts.After-shared-slice-known2 (times-claims t) (times-at t) times.Post Inv μ → lts.Start (times-claims t) (times-at t) times.Post Inv μ
   start c = c .before .before .before .before
 
-  abbrev pub tested : lts.After-size2 (times-claims t) (times-at t) times.Post Inv μ → lts.Else1 (times-claims t) (times-at t) times.Post Inv μ
+  abbrev tested : lts.After-size2 (times-claims t) (times-at t) times.Post Inv μ → lts.Else1 (times-claims t) (times-at t) times.Post Inv μ
   tested c = c .before .before .before
 
   abbrev pub entry : lts.After-size2 (times-claims t) (times-at t) times.Post Inv μ → lts.Start (times-claims t) (times-at t) times.Post Inv μ
