@@ -100,6 +100,10 @@ class Definition(unittest.TestCase):
                                 lines += a.act(m - 1, q, h_[k], p.cycle(j - 1, l))
                         self.assertEqual(lines, a.act(m, q, h, p.cycle(j, l)))
 
+    def test_example_of_an_action(self):
+        self.assertEqual(Nested(3).action(2, [1, 2, 3, 4, 5, 6], 2, 2), [36, 33, 54, 51, 43, 44])
+        self.assertEqual(a.act(2, 3, [1, 2, 3, 4, 5, 6], p.cycle(2, 2)), [36, 33, 54, 51, 43, 44])
+
     def test_nested_method_and_its_count(self):
         source = random.Random(4)
         for m in range(5):
