@@ -1,5 +1,7 @@
 // A use of demand 3 from outside: four products of hecke, and the law that two of the results are equal.
 
+#![tactic(auto)]
+
 ghost use Rattle.std.specs.Prelude.{◌≡◌};
 ghost use Rattle.algebra.specs.Product.{times};
 ghost use Rattle.element_calls.specs.Coefficients.{ring, parameters_of};

@@ -1,6 +1,8 @@
 // Loops over blocks of coefficients on lent slices, for the parameters p: added, multiplied, moved, exchanged. Where the sizes do not
 // fit, nothing is written. Where there is one, d is the destination and s the source.
 
+#![tactic(auto)]
+
 ghost use Rattle.std.specs.Prelude.{◌≡◌};
 ghost use Rattle.block_loops.specs.declared.Way.TheVariants.{Forward, Backward};
 ghost use Rattle.block_loops.specs.InPlace.{add_to, add_multiple, fold_into, move_down, exchange_in};

@@ -1,5 +1,7 @@
 // What a command counts: a function of the rank and of the kind of command.
 
+#![tactic(auto)]
+
 ghost use Rattle.std.specs.Prelude.{◌≡◌, ◌≤◌};
 ghost use Rattle.costs.specs.Costs.{update_cost, cost_call};
 

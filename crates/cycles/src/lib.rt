@@ -1,6 +1,8 @@
 // The action of T_a(j,l) on an element, in the place of the element, for the parameters p. Where the rank, j, l and the sizes do not
 // fit, the element stays as it was.
 
+#![tactic(auto)]
+
 ghost use Rattle.std.specs.Prelude.{◌≡◌, ◌≤◌, length};
 ghost use Rattle.cycles.specs.InPlace.{act_fits, act_in};
 

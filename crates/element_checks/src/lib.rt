@@ -1,5 +1,7 @@
 // The checks of the seven element calls, and the parameters of the algebra. What each answers is defined in `element_calls`.
 
+#![tactic(auto)]
+
 ghost use Rattle.std.specs.Prelude.{◌≡◌};
 ghost use Rattle.element_calls.specs.Coefficients.{parameters_of};
 

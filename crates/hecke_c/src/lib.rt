@@ -4,6 +4,8 @@
 // refusals. It returns 0, or the refusal's number plus 256 times its place; then every lent slice is as it was. What a call
 // counts or answers goes to the front of a lent answer, as far as it has room. include/hecke.h has the declarations.
 
+#![tactic(auto)]
+
 ghost use Rattle.std.specs.Prelude.{◌≡◌};
 ghost use Rattle.ranks.specs.Ranks.{size, scratch_size};
 ghost use Rattle.hecke_c.specs.Calls.{tower_of_images, images_of_tower, tower_inverse, tower_product, tower_length, tower_word, tower_descents, sum, scale, act_word, act_signed_word, product, pairing, trace, sheet_check, run_sheet};

@@ -15,6 +15,8 @@
 // The program ends where the input does. It also ends, with no line, at a call that is cut off, and at one with more than 5,041
 // words in a list or the result, 4,097 letters or 60,500 words of scratch.
 
+#![tactic(auto)]
+
 use refusals::{Answer, Verdict};
 use vector_io::{Read, print_field};
 

@@ -1,5 +1,7 @@
 // The tower of an image list, in one walk over the list: an image is read once, and vetted and counted together.
 
+#![tactic(auto)]
+
 ghost use Rattle.std.specs.Prelude.{◌≡◌, ◌+◌, ◌<◌, ◌≤◌, length, take, drop};
 ghost use Rattle.perm_calls.specs.Calls.{tower_of_call};
 ghost use Rattle.image_walk.specs.Walk.{Walked, Vetted};

@@ -1,5 +1,7 @@
 // The inverse of a word modulo 2^64.
 
+#![tactic(auto)]
+
 ghost use Rattle.std.specs.Prelude.{◌≡◌};
 ghost use Rattle.ring.specs.Modular.{word_modulus};
 ghost use Rattle.inverses.specs.Inverses.{has_inverse, inverse_of};

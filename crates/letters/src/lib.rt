@@ -1,6 +1,8 @@
 // One letter on an element, T_j or its inverse, in the place of the element, for the parameters p. Where the rank, the letter and the
 // size do not fit, nothing is written.
 
+#![tactic(auto)]
+
 ghost use Rattle.std.specs.Prelude.{◌≡◌, ◌≤◌};
 ghost use Rattle.lists.specs.Blocks.{block, blocks};
 ghost use Rattle.block_loops.specs.declared.Way.TheVariants.{Forward, Backward};

@@ -42,6 +42,7 @@ range_shift d a (suc n) = ap {B = List ℕ} (λ t. (a + d) ∷ t) (range_shift d
 
 pub mem_range : {i : ℕ} (a n : ℕ) → Memᴰ i (range a n) → (a ≤ i) × (i < a + n)
 unfolding range
+mem_range {i = i} a zero x' = elim x' [ ]
 mem_range a (suc n) (Memᴰ.head e) = (omega arith, omega arith)
 mem_range a (suc n) (Memᴰ.tail t) = let h = mem_range (suc a) n t in (omega (arith, h), omega (arith, h))
 

@@ -1,5 +1,7 @@
 // One command of a sheet, on four registers of 720 words each.
 
+#![tactic(auto)]
+
 ghost use Rattle.std.specs.Prelude.{◌≡◌, true, length};
 ghost use Rattle.sheet_format.specs.declared.Command.TheVariants.{Change};
 ghost use Rattle.operands.specs.Operands.{may_run};

@@ -1,6 +1,8 @@
 // The product of elements by the nested method, into a lent result, for the parameters p. Where the rank and the sizes do not fit, the
 // result stays as it was.
 
+#![tactic(auto)]
+
 ghost use Rattle.std.specs.Prelude.{◌≡◌, length};
 ghost use Rattle.nested.specs.InPlace.{product_fits, product_in};
 

@@ -1,5 +1,7 @@
 // What is judged of one command of a sheet: whether its operands are in range, and whether q has an inverse if it needs one.
 
+#![tactic(auto)]
+
 ghost use Rattle.std.specs.Prelude.{◌≡◌, not, ◌&&◌, ◌||◌, ◌≤◌};
 ghost use Rattle.lists.specs.Lists.{same, less};
 ghost use Rattle.sheet_format.specs.declared.Command.TheVariants.{Change};

@@ -1,5 +1,7 @@
 // What the run of a sheet prints, as text into lent buffers.
 
+#![tactic(auto)]
+
 ghost use Rattle.std.specs.Prelude.{◌≡◌, true, ◌≤◌, ◌<◌, length};
 ghost use Rattle.sheet_format.specs.declared.Command.TheVariants.{Show};
 ghost use Rattle.sheet_format.specs.declared.Query.TheVariants.{Register, Pairing, Equality, Trace};

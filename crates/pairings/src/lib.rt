@@ -1,5 +1,7 @@
 // The pairing of two elements of one rank.
 
+#![tactic(auto)]
+
 ghost use Rattle.std.specs.Prelude.{◌≡◌, ℕ};
 ghost use Rattle.ring.specs.Modular.{words};
 ghost use Rattle.algebra.specs.Pairing.{pairing};

@@ -1,6 +1,8 @@
 // What the seven permutation and tower calls check and answer: answers, and the checks of towers and buffers. What a call answers and writes is defined
 // in specs/Calls; the work itself is in `image_walk`, `towers` and `tower_words`.
 
+#![tactic(auto)]
+
 use refusals::Refusal;
 
 pub mod checks;

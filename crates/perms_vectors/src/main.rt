@@ -7,6 +7,8 @@
 //
 // A line is A and the numbers that the call answers, or E with the number and the place of the refusal; then the buffer.
 
+#![tactic(auto)]
+
 ghost use Rattle.std.specs.Prelude.{◌≡◌, ◌≤◌, length};
 
 use perm_calls::{Counted, Generators};

@@ -1,5 +1,7 @@
 // The program: it runs the sheet that stands in standard input, and prints what document 01 says.
 
+#![tactic(auto)]
+
 use input::Input;
 use libc::STDERR_FILENO;
 

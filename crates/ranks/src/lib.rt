@@ -1,5 +1,7 @@
 // What a rank says, for the library and the sheets: the size of an element, the scratch and the count of a product.
 
+#![tactic(auto)]
+
 ghost use Rattle.std.specs.Prelude.{◌≡◌};
 ghost use Rattle.ranks.specs.Ranks.{size, scratch_size, product_count};
 

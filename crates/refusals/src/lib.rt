@@ -1,6 +1,8 @@
 // Document 01's table of refusals, and 15 of document 02, Ticket 1, for all calls and sheets: why something is refused, its
 // number and its place, and verdicts joined in the order of the checks.
 
+#![tactic(auto)]
+
 ghost use Rattle.std.specs.Prelude.{◌≡◌};
 ghost use Rattle.refusals.specs.Refusals.{refusal_number, refusal_place, ◌then◌, accepted, refused};
 

@@ -1,5 +1,7 @@
 // What a call for C and Rust returns, by the cases of its answer: one word, and words at the front of a lent answer.
 
+#![tactic(auto)]
+
 ghost use Rattle.std.specs.Prelude.{◌≡◌, [], ◌∷◌, set};
 ghost use Rattle.refusals.specs.Refusals.{verdict_report, answer_report};
 ghost use Rattle.refusals.specs.declared.Verdict.TheVariants.{Refused};

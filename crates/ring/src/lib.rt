@@ -1,5 +1,7 @@
 // Arithmetic on 64-bit words, the integers modulo 2^64.
 
+#![tactic(auto)]
+
 ghost use Rattle.std.specs.Prelude.{◌≡◌};
 ghost use Rattle.ring.specs.Modular.{words};
 

@@ -1,6 +1,8 @@
 // Reads pairs of words, lowest byte first, and writes a line for each pair: its sum and its product by `ring`.
 // The stored input and output are made by the reference program.
 
+#![tactic(auto)]
+
 use vector_io::Read;
 
 // One line, and whether there was a pair.

@@ -1,5 +1,7 @@
 // The run of a sheet, on four registers of 720 words each. The sheet is checked whole before anything runs.
 
+#![tactic(auto)]
+
 ghost use Rattle.std.specs.Prelude.{◌≡◌, ◌<◌, length};
 ghost use Rattle.sheet.specs.Check.{placed, commands};
 ghost use Rattle.machine.specs.Registers.{register};

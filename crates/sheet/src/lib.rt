@@ -1,5 +1,7 @@
 // The check of a whole run sheet.
 
+#![tactic(auto)]
+
 ghost use Rattle.std.specs.Prelude.{◌≡◌};
 ghost use Rattle.sheet.specs.Check.{check_sheet};
 

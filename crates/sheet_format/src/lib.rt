@@ -1,5 +1,7 @@
 // The format of run sheets: the commands that stand in the bytes of a sheet, and the reader.
 
+#![tactic(auto)]
+
 ghost use Rattle.std.specs.Prelude.{◌≡◌};
 ghost use Rattle.sheet_format.specs.Format.{decode, begun, header};
 

@@ -9,6 +9,8 @@
 // The program ends where the input does. It also ends, with no line, at a sheet that is cut off, and at one of more than 4,097
 // bytes.
 
+#![tactic(auto)]
+
 use refusals::Verdict;
 use vector_io::{Read, print_field};
 

@@ -3,6 +3,8 @@
 // A tower is the inversion table of a permutation. A call checks all it is given before it writes, and a refusal leaves every
 // lent byte as it was.
 
+#![tactic(auto)]
+
 ghost use Rattle.std.specs.Prelude.{◌≡◌};
 ghost use Rattle.perm_calls.specs.Calls.{length_call, standard_word_call, descents_call};
 

@@ -3,6 +3,8 @@
 // A permutation is the list of its images; a tower is its inversion table. A call checks all it is given before it
 // writes, and a refusal leaves every lent byte as it was.
 
+#![tactic(auto)]
+
 ghost use Rattle.std.specs.Prelude.{◌≡◌};
 ghost use Rattle.perm_calls.specs.Calls.{images_of_call, inverse_call, product_call};
 

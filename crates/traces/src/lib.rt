@@ -1,5 +1,7 @@
 // The Markov trace of an element, with the parameter z.
 
+#![tactic(auto)]
+
 ghost use Rattle.std.specs.Prelude.{◌≡◌, ℕ};
 ghost use Rattle.markov_trace.specs.Trace.{trace};
 ghost use Rattle.element_calls.specs.Calls.{trace_call};

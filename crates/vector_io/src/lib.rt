@@ -1,5 +1,7 @@
 // What the test programs share: numbers read from standard input, and fields written to standard output.
 
+#![tactic(auto)]
+
 ghost use Rattle.std.specs.Prelude.{◌≡◌, ◌≤◌, length};
 ghost use Rattle.vector_io.specs.Numbers.{number, Below};
 

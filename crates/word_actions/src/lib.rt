@@ -4,6 +4,8 @@
 // An element of rank m is M = (m + 1)! words, its coefficients modulo 2^64. A call checks all it is given before it writes,
 // and a refusal counts 0 and leaves every lent word as it was.
 
+#![tactic(auto)]
+
 ghost use Rattle.std.specs.Prelude.{◌≡◌, ℕ, suc, ◌*◌, ◌/◌, ◌≤◌};
 ghost use Rattle.lists.specs.Numbers.{factorial};
 ghost use Rattle.refusals.specs.Refusals.{accepted};

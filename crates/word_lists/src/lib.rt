@@ -1,5 +1,7 @@
 // Lists of words on lent slices: cleared, copied, added, and multiplied by a word. Where the sizes do not fit, nothing is written.
 
+#![tactic(auto)]
+
 ghost use Rattle.std.specs.Prelude.{◌≡◌, length, replicate};
 ghost use Rattle.word_lists.specs.Into.{load_into, sum_into, scale_into};
 

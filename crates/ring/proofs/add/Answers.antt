@@ -1,0 +1,7 @@
+use Rattle.std.proofs.Common.{rules}
+use Rattle.ring.specs.Modular.{words, modular}
+use Rattle.ring.proofs.add.Goals as goal
+
+pub returns : goal.returns
+unfolding modular
+returns c = search rules
