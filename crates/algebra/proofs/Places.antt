@@ -54,7 +54,7 @@ length_perms m = sym (length-map (perms m) place) ∙ ap length (places m) ∙ l
 
 pub place_at : (m i : ℕ) → i < factorial (suc m) → place (get_or (perms m) i []) ≡ i
 unfolding place series
-place_at m i h = sym (ListN.get_or_map place (perms m) i []) ∙ ap (λ s. get_or s i 0) (places m) ∙ get_or_range 0 (factorial (suc m)) i h ∙ zero-add i
+place_at m i h = sym (ListN.get_or-map place (perms m) i []) ∙ ap (λ s. get_or s i 0) (places m) ∙ get_or_range 0 (factorial (suc m)) i h ∙ zero-add i
 
 pub at_place : (m : ℕ) (w : List ℕ) → Perm m w → get_or (perms m) (place w) [] ≡ w
 at_place m w p =

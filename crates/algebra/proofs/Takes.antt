@@ -74,9 +74,9 @@ module _ (A : Type 0) (o : Ops A) {s p : ℕ} where
   takes_onto : (B : ℕ) {n : ℕ} {x : Counted A} (t : List ℕ) (f : ℕ → Counted A) (k : ℕ → ℕ) → Takes s p B n x → All (λ i. Takes s p B (k i) (f i)) t
       → Takes s p B (onto ◌+◌ n t k + length t * (s * B)) (onto (◌⊞◌ A o) x t f)
   unfolding onto
-  takes_onto B [] f k u v = takes_as refl (omega arith) u
-  takes_onto B {n} (i ∷ t) f k u v =
-      takes_as refl (omega (arith, onto_more (n + k i) (s * B) t k)) (takes_onto B t f k (takes_plus u v.0) v.1)
+  takes_onto B {n = n} [] f k u v = takes_as refl (omega arith) u
+  takes_onto B {n = n} (i ∷ t) f k u v =
+      takes_as refl (omega (arith, onto_more (n + k i) (s * B) t k)) (takes_onto B {n = n + k i + s * B} t f k (takes_plus u v.0) v.1)
 
   -- at least one
   pub takes_sum : (B : ℕ) (t : List ℕ) (f : ℕ → Counted A) (k : ℕ → ℕ) → 0 < length t → All (λ i. Takes s p B (k i) (f i)) t
