@@ -10,7 +10,7 @@ ghost use Rattle.block_loops.specs.InPlace.{add_to, add_multiple, fold_into, mov
 use element_calls::Parameters;
 
 // Which way a letter goes: T_j, with the parameters of q, or its inverse, with those of the inverse of q.
-#[derive(Drop)]
+#[derive(Clone, Copy)]
 pub enum Way {
     Forward,
     Backward,

@@ -6,14 +6,14 @@
 use refusals::Verdict;
 
 // The answer of a call that gives one word and counts no ring operation: the word is 0 where the call is refused.
-#[derive(Drop)]
+#[derive(Clone, Copy)]
 pub struct Valued {
     pub verdict: Verdict,
     pub value: u64,
 }
 
 // The parameters of the algebra: q, and r = q - 1.
-#[derive(Drop)]
+#[derive(Clone, Copy)]
 pub struct Parameters {
     pub q: u64,
     pub r: u64,

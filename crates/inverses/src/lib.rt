@@ -8,7 +8,7 @@ ghost use Rattle.inverses.specs.Inverses.{has_inverse, inverse_of};
 ghost use Rattle.inverses.specs.Steps.{Closer};
 
 // Whether a word has an inverse, and which.
-#[derive(Drop)]
+#[derive(Clone, Copy)]
 pub enum Inverse {
     Is(u64),
     None,

@@ -13,7 +13,7 @@ use sheet_format::{Command, Header, Update};
 mod registers;
 
 // The answer of one command.
-#[derive(Drop)]
+#[derive(Clone, Copy)]
 pub enum Stepped {
     // Obeyed, with the count of its ring operations.
     Obeyed(u64),

@@ -8,14 +8,14 @@ use refusals::Refusal;
 pub mod checks;
 
 // The answer of a call that counts.
-#[derive(Drop)]
+#[derive(Clone, Copy)]
 pub enum Counted {
     Count(usize),
     Refused(Refusal),
 }
 
 // The answer of a call for a set of generators: s_i is at bit i - 1 of the mask, and count is their number.
-#[derive(Drop)]
+#[derive(Clone, Copy)]
 pub enum Generators {
     Set { mask: u64, count: u32 },
     Refused(Refusal),

@@ -16,7 +16,7 @@ use refusals::{Refusal, Verdict};
 use vector_io::print_field;
 
 // What is read of the input: a byte, or nothing more.
-#[derive(Drop)]
+#[derive(Clone, Copy)]
 enum Read {
     Byte(u8),
     End,

@@ -5,7 +5,7 @@ ghost use Rattle.program.specs.Pieces.{ReadInto};
 use libc::STDIN_FILENO;
 
 // What was read.
-#[derive(Drop)]
+#[derive(Clone, Copy)]
 pub(crate) enum Input {
     // This many bytes, at the front of the buffer.
     Bytes(usize),

@@ -11,7 +11,7 @@ use runner::{Begun, Cursor, Turned};
 use sheet_format::Header;
 
 // A piece of text: where the run stands after it, at its end by the end command; its size; and whether the run has ended.
-#[derive(Drop)]
+#[derive(Clone, Copy)]
 struct Filled {
     cursor: Cursor,
     used: usize,
@@ -46,7 +46,7 @@ fn fill(sheet: &[u8], x: &mut [u64], buffer: &mut [u8], header: Header, from: Cu
 }
 
 // What became of the bytes handed over so far: how many they are, and whether the last write took all of its part.
-#[derive(Drop)]
+#[derive(Clone, Copy)]
 pub(crate) struct Handed {
     pub(crate) sent: usize,
     pub(crate) written: bool,
@@ -65,7 +65,7 @@ fn hand_over(sheet: &[u8], part: &[u8], sent: usize) -> Handed
 }
 
 // Where the run stands, at its end by the end command, and what became of the bytes.
-#[derive(Drop)]
+#[derive(Clone, Copy)]
 struct Output {
     cursor: Cursor,
     handed: Handed,

@@ -7,7 +7,7 @@ ghost use Rattle.std.specs.Prelude.{◌≡◌};
 ghost use Rattle.refusals.specs.Refusals.{refusal_number, refusal_place, ◌then◌, accepted, refused};
 
 // Why a call or a sheet is refused.
-#[derive(Drop)]
+#[derive(Clone, Copy)]
 pub enum Refusal {
     // A rank above 6.
     Rank,
@@ -94,14 +94,14 @@ pub fn place_of(why: Refusal) -> usize
 }
 
 // Whether what was given passes its checks. A call that writes has then written its result.
-#[derive(Drop)]
+#[derive(Clone, Copy)]
 pub enum Verdict {
     Accepted,
     Refused(Refusal),
 }
 
 // The answer of a call that counts its ring operations.
-#[derive(Drop)]
+#[derive(Clone, Copy)]
 pub struct Answer {
     pub verdict: Verdict,
     pub count: u64,

@@ -17,7 +17,7 @@ mod turns;
 pub use turns::{begin, turn};
 
 // Where a run stands.
-#[derive(Drop)]
+#[derive(Clone, Copy)]
 pub struct Cursor {
     // The offset of the next command.
     pub at: usize,
@@ -26,7 +26,7 @@ pub struct Cursor {
 }
 
 // How a run begins.
-#[derive(Drop)]
+#[derive(Clone, Copy)]
 pub enum Begun {
     // With the sheet's header, at its first command.
     Ready(Header, Cursor),
@@ -35,7 +35,7 @@ pub enum Begun {
 }
 
 // What a turn answers.
-#[derive(Drop)]
+#[derive(Clone, Copy)]
 pub enum Turned {
     // The command is obeyed, and the next one stands at the cursor.
     On(Cursor),
@@ -46,7 +46,7 @@ pub enum Turned {
 }
 
 // What the run of a sheet gives back: the registers, the ring operations of all commands, and how the run ended.
-#[derive(Drop)]
+#[derive(Clone, Copy)]
 pub struct Finished {
     pub register0: [u64; 720],
     pub register1: [u64; 720],

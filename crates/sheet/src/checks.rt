@@ -42,7 +42,7 @@ fn in_order(at: usize, command: Command) -> bool
 }
 
 // How the check goes on: at an offset, or with its verdict.
-#[derive(Drop)]
+#[derive(Clone, Copy)]
 pub(crate) enum Judged {
     On(usize),
     Done(Verdict),

@@ -7,7 +7,7 @@ use crate::operands::{byte, number};
 use crate::{Command, Decoded, Header, Query, Update};
 
 // What a code means: a command, with how many bytes its operands take, or none.
-#[derive(Drop)]
+#[derive(Clone, Copy)]
 pub(crate) enum Row {
     Known(Command, usize),
     Unknown,

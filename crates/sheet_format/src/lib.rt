@@ -11,7 +11,7 @@ mod operands;
 pub use decoder::decode;
 
 // What the begin command says of a sheet.
-#[derive(Drop)]
+#[derive(Clone, Copy)]
 pub struct Header {
     // The rank m of every element.
     pub rank: usize,
@@ -20,7 +20,7 @@ pub struct Header {
 }
 
 // A command that changes a register.
-#[derive(Drop)]
+#[derive(Clone, Copy)]
 pub enum Update {
     // A register becomes the unit.
     Unit(usize),
@@ -39,7 +39,7 @@ pub enum Update {
 }
 
 // What a command shows.
-#[derive(Drop)]
+#[derive(Clone, Copy)]
 pub enum Query {
     // A register.
     Register(usize),
@@ -52,7 +52,7 @@ pub enum Query {
 }
 
 // A command with its operands.
-#[derive(Drop)]
+#[derive(Clone, Copy)]
 pub enum Command {
     // The last command.
     End,
@@ -65,7 +65,7 @@ pub enum Command {
 }
 
 // What stands at an offset of a sheet.
-#[derive(Drop)]
+#[derive(Clone, Copy)]
 pub enum Decoded {
     // A command, and the offset after it.
     Found(Command, usize),
@@ -78,7 +78,7 @@ pub enum Decoded {
 }
 
 // A sheet's bytes, and the offset of the next command.
-#[derive(Drop)]
+#[derive(Clone, Copy)]
 pub struct Reader<'a> {
     pub sheet: &'a [u8],
     pub at: usize,
