@@ -23,8 +23,8 @@ pub fn product(
     res: &mut [u64],
     scratch: &mut [u64],
 ) -> Answer
-    ensures* { λ a. ⌜ product_call m q left.now right.now res.old scratch.old
-        ≡ record { answer = a; lent = record { result = res.new; scratch = scratch.new } } ⌝ }
+    ensures { product_call m q left.now right.now res.old scratch.old
+        ≡ record { answer = result; lent = record { result = res.new; scratch = scratch.new } } }
 {
     let factors = then(
         then(checks::rank(m), checks::sized(m, left.len())),

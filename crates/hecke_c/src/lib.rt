@@ -162,8 +162,8 @@ pub extern "C" fn hecke_product(
     scratch: &mut [u64],
     answer: &mut [u64],
 ) -> u64
-    ensures* { λ w. ⌜ product m q left.now right.now res.old scratch.old answer.old
-        ≡ record { word = w; lent = record { result = res.new; scratch = scratch.new }; answer = answer.new } ⌝ }
+    ensures { product m q left.now right.now res.old scratch.old answer.old
+        ≡ record { word = result; lent = record { result = res.new; scratch = scratch.new }; answer = answer.new } }
 {
     let done = hecke::product(m, q, left, right, res, scratch);
     returned::answered(done, answer)
