@@ -250,7 +250,7 @@ def contract_faults(rows, public, exempt):
         if 'requires {' in contract:
             yield f'{label} is not for all inputs'
         for one in definitions:
-            if one.name.strip('_') not in cited:
+            if one.name.strip('◌') not in cited:
                 yield f'{label} does not cite {one.name}'
         has = {'a contract': ensured, 'a definition': definitions, 'two wrong answers': len(set(edits)) > 1}
         for what in exempt:
