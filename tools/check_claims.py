@@ -245,9 +245,10 @@ def contract_faults(rows, public, exempt):
         contract = ''.join(public.get((one.path, one.name), '') for one in functions)
         if not contract:
             continue
-        ensured = contract.partition('ensures {')[2]
+        ensured = re.split(r'\bensures\b', contract, maxsplit=1)[1:]
+        ensured = ensured[0] if ensured else ''
         cited = set(re.findall(r'[^\s(){}.,;]+', ensured))
-        if 'requires {' in contract:
+        if re.search(r'\brequires\b', contract):
             yield f'{label} is not for all inputs'
         for one in definitions:
             if one.name.strip('◌') not in cited:
