@@ -1,10 +1,5 @@
 -- The tower is judged, then the buffer against the length; then the word is written.
-use mathlib.Core.Path.{◌≡◌, refl, sym, ap, ap₂, ◌∙◌}
-use mathlib.Core.List.{List, ◌++◌}
-use Prim.Native.Nat.{ℕ}
-use native.Mathlib.Omega.{arith}
-use borrow.Author.Rules.{rules}
-use lib.ListN.{length, drop}
+use Rattle.std.proofs.Common.{◌≡◌, ℕ, List, ◌++◌, length, drop, refl, sym, ap, ap₂, ◌∙◌, arith, rules}
 use Rattle.refusals.specs.Refusals.{◌then◌}
 use Rattle.refusals.specs.declared.Refusal.{Refusal}
 use Rattle.refusals.specs.declared.Verdict.{Verdict}
@@ -16,8 +11,7 @@ use Rattle.perms.proofs.Lengths.{len_images_of, length_standard}
 use Rattle.perm_calls.specs.Calls.{tower_verdict, room, standard_word_call}
 use Rattle.perm_calls.specs.declared.Counted.TheVariants as C
 use Rattle.perm_calls.proofs.Verdicts.{room_accepted, tower_accepted}
-use Rattle.tower_words.proofs.standard_word.Statement.{statement}
-use Rattle.tower_words.proofs.standard_word.Tie as tie
+use Rattle.tower_words.proofs.standard_word.Goals as goal
 
 -- f is the verdict of the tower, g that of the buffer for a word of n letters
 module _ {f : Verdict} (t buffer : List ℕ) where
@@ -43,37 +37,20 @@ module _ {f : Verdict} (t buffer : List ℕ) where
       let m = length_standard t in
       ended_done C.Refused buffer (found e a d k ∙ b) (ap C.Count (d ∙ sym m)) (l ∙ ap (λ n. standard t ++ drop n buffer) (sym m))
 
--- ---- places: where the tower is judged, and where the buffer is
+pub returns-in-Refused : goal.returns-in-Refused
+returns-in-Refused c = search (bad, rules)
 
-abbrev judged : tie.After-total → tie.After-tower
-judged c = c.before.before.before
+pub total-letters-requires : goal.total-letters-requires
+total-letters-requires c = (tower_accepted _ (sym c.tower-checked.ensures ∙ c.in_default.is)).0
 
-abbrev measured : tie.After-fill-word-arg → tie.After-room
-measured c = c.before.before.before
+pub returns-in-Refused-fits : goal.returns-in-Refused-fits
+returns-in-Refused-fits c = search (short, rules)
 
--- ---- the needs
+pub fill_word-requires : goal.fill_word-requires
+fill_word-requires c =
+    let good = tower_accepted _ (sym c.tower-checked.ensures ∙ c.in_default.is) in
+    let long = room_accepted _ _ (sym c.room-fits.ensures ∙ c.in_default-fits.is) in
+    (good.0, good.1, omega (arith, c.total-letters.ensures))
 
-returns : tie.Need-returns
-returns c = search (bad, rules)
-
-total-requires : tie.Need-total-requires
-total-requires c κs = (tower_accepted _ (sym c.before.before.tower.ensures ∙ c.enum_told.given.1)).0
-
-returns-2 : tie.Need-returns-2
-returns-2 c = search (short, rules)
-
-fill-word-requires : tie.Need-fill-word-requires
-fill-word-requires c κs =
-    let at = measured c in
-    let good = tower_accepted _ (sym (judged at.before).tower.ensures ∙ at.before.before.enum_told.given.1) in
-    let long = room_accepted _ _ (sym at.room.ensures ∙ c.before.enum-told2.given.1) in
-    (good.0, good.1, omega (arith, at.before.total.ensures))
-
-returns-3 : tie.Need-returns-3
-returns-3 c = search (spelled, rules)
-
-pub standard-word-spec : {M : Type 1} → statement M
-standard-word-spec =
-    tie.close
-    (tie.spec (λ c κs. search rules) (λ c. search rules) returns (λ c. search rules) total-requires (λ c κs. search rules) (λ c. search rules) returns-2
-    (λ c. search rules) fill-word-requires (λ c. search rules) returns-3)
+pub returns : goal.returns
+returns c = search (spelled, rules)
