@@ -1,8 +1,5 @@
 -- By the cases of the answer. Rests on Told.
-use mathlib.Core.Path.{◌≡◌, ap, ◌∙◌}
-use mathlib.Core.List.{List, [], ◌∷◌}
-use Prim.Native.Nat.{ℕ}
-use borrow.Author.Rules.{rules}
+use Rattle.std.proofs.Common.{◌≡◌, ℕ, List, [], ◌∷◌, ap, ◌∙◌, rules}
 use Rattle.refusals.specs.Refusals.{verdict_report}
 use Rattle.refusals.specs.declared.Refusal.{Refusal}
 use Rattle.refusals.specs.declared.Verdict.TheVariants as Verdict
@@ -11,8 +8,7 @@ use Rattle.perm_calls.specs.declared.Counted.{Counted}
 use Rattle.perm_calls.specs.declared.Counted.TheVariants.{Refused}
 use Rattle.returned.specs.Returned.{word_of, told}
 use Rattle.returned.proofs.Told.{joined, done_one, refused_word, refused_told}
-use Rattle.returned.proofs.counted.Statement.{statement}
-use Rattle.returned.proofs.counted.Tie as tie
+use Rattle.returned.proofs.counted.Goals as goal
 
 word : {why : Refusal} {w : ℕ} (a : Counted) → a ≡ Refused why → w ≡ word_of (verdict_report (Verdict.Refused why)) → w ≡ word_of (counted_report a)
 word {why} a e f = refused_word why (ap counted_report e) f
@@ -22,15 +18,8 @@ unchanged : {why : Refusal} {y : List ℕ} (a : Counted) (answer : List ℕ) →
     → y ≡ told (counted_report a) ((counted_report a).count ∷ []) answer
 unchanged {why} a answer e g = g ∙ refused_told why ((counted_report a).count ∷ []) answer (ap counted_report e)
 
-returns : tie.Need-returns
-returns c =
-    let put = c.before.before in let is = ap counted_report put.before.before.before.counted.given.1 in
-    done_one _ is (ap (λ r. r.count) is) put.put.ensures
+pub returns-in-Count : goal.returns-in-Count
+returns-in-Count c = let is = ap counted_report c.in-Count.is in done_one _ is (ap (λ r. r.count) is) c.put.ensures
 
-returns-2 : tie.Need-returns-2
-returns-2 c = joined _ _ _ (search (word, rules)) (search (unchanged, rules))
-
-pub counted_spec : {M : Type 1} → statement M
-counted_spec =
-    tie.close
-    (tie.spec (λ c. search rules) (λ c κs. search rules) (λ c. search rules) (λ c κs. search rules) (λ c. search rules) returns returns-2)
+pub returns-in-Refused : goal.returns-in-Refused
+returns-in-Refused c = joined _ _ _ (search (word, rules)) (search (unchanged, rules))
