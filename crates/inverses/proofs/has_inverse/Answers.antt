@@ -5,19 +5,15 @@ use Rattle.lists.specs.Lists.{same}
 use Rattle.lists.proofs.Test.{SameView, is, isnt, same?}
 use Rattle.inverses.specs.Inverses.{has_inverse}
 use Rattle.inverses.proofs.Parity.{word_inverses}
-use Rattle.inverses.proofs.has_inverse.Statement.{statement}
-use Rattle.inverses.proofs.has_inverse.Tie as tie
+use Rattle.inverses.proofs.has_inverse.Goals as goal
 
-odd-has : (q : ℕ) → same (q % 2) 1 ≡ has_inverse word_modulus q
-odd-has q = go (same? (q % 2) 1)
+odd_has : (q : ℕ) → same (q % 2) 1 ≡ has_inverse word_modulus q
+odd_has q = go (same? (q % 2) 1)
   where
     go : SameView (q % 2) 1 → same (q % 2) 1 ≡ has_inverse word_modulus q
     go (is p e) = e ∙ sym ((word_inverses q).odd p)
     go (isnt n e) = e ∙ sym ((word_inverses q).even (omega arith))
 
-returns : tie.Need-returns
+pub returns : goal.returns
 unfolding same
-returns c = odd-has c.args.q
-
-pub has-inverse-spec : {M : Type 1} → statement M
-has-inverse-spec = tie.close (tie.spec returns)
+returns c = odd_has c.args.q
