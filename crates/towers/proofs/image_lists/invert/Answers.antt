@@ -1,5 +1,5 @@
 -- The image list, then the inverse, then its tower.
-use Rattle.std.proofs.Common.{sym, ap, subst, ◌∙◌, arith}
+use Rattle.std.proofs.Common.{sym, ap, subst, ◌∙◌, arith, rules}
 use Rattle.perms.specs.Permutation.{Perm, inverse}
 use Rattle.perms.specs.Tower.{tower_of}
 use Rattle.perms.proofs.ImagesOf.{perm_made, perm_ranked}
@@ -14,7 +14,8 @@ fill_inverse-requires c =
 pub fill_tower-requires : goal.fill_tower-requires
 fill_tower-requires c =
     let images = perm_ranked c.requires.0.tower c.requires.0.result_size c.fill_images.ensures in
-    (omega (arith, c.requires.0.result_size, c.requires.0.rank), subst (Perm _) (sym c.fill_inverse.ensures) (perm_inverse _ images))
+    let points = subst (Perm _) (sym c.fill_inverse.ensures) (perm_inverse _ images) in
+    (omega (arith, c.requires.0.result_size, c.requires.0.rank), search rules)
 
 pub returns : goal.returns
 returns c = c.fill_tower.ensures ∙ ap tower_of c.fill_inverse.ensures ∙ ap (λ w. tower_of (inverse w)) c.fill_images.ensures
