@@ -17,7 +17,7 @@ fn line(rt: &impl Print, input: &mut impl io::Read) -> io::Result<bool> {
     let sum = ring::add(a, b);
     print!(rt; "{sum}")?;
     vector_io::print_field(rt, ring::mul(a, b))?;
-    println!(rt; "")?;
+    println!(rt)?;
     Ok(true)
 }
 
