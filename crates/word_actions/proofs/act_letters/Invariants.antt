@@ -1,0 +1,6 @@
+-- In each step of the loop one letter acts on x. Rests on letters' WordAction.
+use Rattle.letters.proofs.WordAction.{Acting}
+use Rattle.word_actions.proofs.act_letters.Given as goal
+
+abbrev pub invariant-loop-i : goal.invariant-loop-i
+invariant-loop-i l = Acting l.p l.m l.word l.initial.x l.x l.i
