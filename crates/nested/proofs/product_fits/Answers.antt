@@ -1,5 +1,5 @@
 -- The tests in a row are the specification's. Rests on Fits and ranks' Sizes.
-use Rattle.std.proofs.Common.{◌≡◌, ℕ, suc, ◌*◌, ◌≤◌, sym, ap, ◌∙◌, arith}
+use Rattle.std.proofs.Common.{◌≡◌, ℕ, suc, ◌*◌, ◌≤◌, ◌<◌, sym, ap, ◌∙◌, arith}
 use mathlib.Core.Bool.{not}
 use native.Mathlib.Nat.{mul-le-mul_right}
 use Rattle.lists.specs.Lists.{less}
@@ -48,8 +48,10 @@ overflow_mul-m c = let u = c.args in
 
 pub returns-then-n-m : goal.returns-then-n-m
 returns-then-n-m c = let u = c.args in
-    ap not (sym (less_yes c.if-n-m.true)) ∙ judged u.n c.if-m-gt6.false c.size-size.ensures c.if-h-size.false c.if-g-size.false c.if-out-size.false
+    let few : u.n < u.m * c.size-size.result = omega arith in
+    ap not (sym (less_yes few)) ∙ judged u.n (omega arith) c.size-size.ensures (omega arith) (omega arith) (omega arith)
 
 pub returns : goal.returns
 returns c = let u = c.args in
-    ap not (sym (less_no c.if-n-m.false)) ∙ judged u.n c.if-m-gt6.false c.size-size.ensures c.if-h-size.false c.if-g-size.false c.if-out-size.false
+    let enough : u.m * c.size-size.result ≤ u.n = omega arith in
+    ap not (sym (less_no enough)) ∙ judged u.n (omega arith) c.size-size.ensures (omega arith) (omega arith) (omega arith)
