@@ -29,8 +29,5 @@ module _ {m b k : ℕ} {f : ℕ → List ℕ → List ℕ} {x₀ x : List ℕ} (
   pub turn_fits : k < m + 2 → k * b + b ≤ length x
   turn_fits h = fits_block k (m + 2) b (length x) h (omega (arith, past.same, pre.size))
 
-  pub turn_pre : 1 ≤ k → k < m + 2 → TurnPre m (k - 1) (take (k * b + b - k * b) (drop (k * b) x))
-  turn_pre l h = record { rank = omega (arith, pre.rank); within = omega arith; size = part_size b k x (turn_fits h) ∙ pre.block_size }
-
   pub turned_all : k ≡ m + 2 → x ≡ blocks (m + 2) (λ i. f i (block b i x₀))
   turned_all h = passed_all (subst (Passed b f x₀ x) h past) pre.size
