@@ -8,13 +8,13 @@ use native.Mathlib.Nat.{zero-mul}
 use native.Mathlib.Omega.{arith}
 use lib.ListN.{length, take, drop}
 use Rattle.lists.specs.Blocks.{block, blocks}
-use Rattle.lists.proofs.Parts.{fits_block, part_size}
+use Rattle.lists.proofs.Parts.{fits_block}
 use Rattle.lists.proofs.Passed.{Passed, passed_all}
 use Rattle.perms.specs.Tower.{cycle}
 use Rattle.algebra.specs.Product.{act}
 use Rattle.element_calls.specs.declared.Parameters.{Parameters}
 use Rattle.element_calls.specs.Coefficients.{ring}
-use Rattle.traces.specs.Steps.{TurnPre, LevelPre}
+use Rattle.traces.specs.Steps.{LevelPre}
 
 abbrev pub on_block : Parameters → (m k : ℕ) → List ℕ → List ℕ
 on_block p m k y = act ℕ (ring p) p.q p.r m (cycle m (k - 1)) y
