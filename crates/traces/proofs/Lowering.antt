@@ -45,9 +45,6 @@ module _ (p : Parameters) (m b : ℕ) (x₀ x : List ℕ) (pre : LevelPre m b x�
     rest : mid_of b (length x - b) x ≡ drop b x
     rest = take_all (length x - b) (drop b x) (omega (arith, length-drop b x))
 
-    pub rest_blocks : length (mid_of b (length x - b) x) ≡ suc m * b
-    rest_blocks = ap length rest ∙ length-drop b x ∙ omega (arith, same, pre.size)
-
     summed : sums ℕ (ring p) 0 m (λ k. block b k (mid_of b (length x - b) x)) ≡ sums ℕ (ring p) 1 m (λ k. on_block p m k (block b k x₀))
     summed = sums_shift p 0 1 m _ _ (λ i l.
         let e : 0 + i ≡ i = omega arith in let one : b ≡ 1 * b = omega arith in

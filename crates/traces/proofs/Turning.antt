@@ -8,13 +8,13 @@ use native.Mathlib.Nat.{zero-mul}
 use native.Mathlib.Omega.{arith}
 use lib.ListN.{length, take, drop}
 use Rattle.lists.specs.Blocks.{block, blocks}
-use Rattle.lists.proofs.Parts.{fits_block, part_size}
+use Rattle.lists.proofs.Parts.{fits_block}
 use Rattle.lists.proofs.Passed.{Passed, passed_all}
 use Rattle.perms.specs.Tower.{cycle}
 use Rattle.algebra.specs.Product.{act}
 use Rattle.element_calls.specs.declared.Parameters.{Parameters}
 use Rattle.element_calls.specs.Coefficients.{ring}
-use Rattle.traces.specs.Steps.{TurnPre, LevelPre}
+use Rattle.traces.specs.Steps.{LevelPre}
 
 abbrev pub on_block : Parameters → (m k : ℕ) → List ℕ → List ℕ
 on_block p m k y = act ℕ (ring p) p.q p.r m (cycle m (k - 1)) y
@@ -28,9 +28,6 @@ first_passed p m b x =
 module _ {m b k : ℕ} {f : ℕ → List ℕ → List ℕ} {x₀ x : List ℕ} (pre : LevelPre m b x₀) (past : Passed b f x₀ x k) where
   pub turn_fits : k < m + 2 → k * b + b ≤ length x
   turn_fits h = fits_block k (m + 2) b (length x) h (omega (arith, past.same, pre.size))
-
-  pub turn_pre : 1 ≤ k → k < m + 2 → TurnPre m (k - 1) (take (k * b + b - k * b) (drop (k * b) x))
-  turn_pre l h = record { rank = omega (arith, pre.rank); within = omega arith; size = part_size b k x (turn_fits h) ∙ pre.block_size }
 
   pub turned_all : k ≡ m + 2 → x ≡ blocks (m + 2) (λ i. f i (block b i x₀))
   turned_all h = passed_all (subst (Passed b f x₀ x) h past) pre.size
