@@ -1,17 +1,12 @@
 -- Each return is one of the tests, in their order.
 use Rattle.std.proofs.Common.{◌≡◌, true, refl, sym, ◌∙◌, length, arith}
-use mathlib.Core.Bool.{and-false}
-use Rattle.lists.proofs.Test.{same_yes, same_no}
+use Rattle.lists.proofs.Test.{same_yes}
 use Rattle.operands.specs.Operands.{may_run}
 use Rattle.operands.proofs.Allowed.{in_range_lem}
 use Rattle.costs.specs.Costs.{cost, cost_call}
 use Rattle.machine.specs.Step.{step_call}
 use Rattle.machine.specs.declared.Stepped.TheVariants.{Obeyed}
 use Rattle.machine.proofs.step.Goals as goal
-
-pub returns-then-x-ne2880 : goal.returns-then-x-ne2880
-unfolding step_call
-returns-then-x-ne2880 c = rw (same_no {x = length c.args.x.now} {a = 2880} (λ e. omega arith), and-false) refl
 
 pub returns-then-not-may_run : goal.returns-then-not-may_run
 unfolding step_call
