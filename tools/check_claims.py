@@ -245,12 +245,13 @@ def contract_faults(rows, public, exempt):
         contract = ''.join(public.get((one.path, one.name), '') for one in functions)
         if not contract:
             continue
-        ensured = contract.partition('ensures {')[2]
+        ensured = re.split(r'\bensures\b', contract, maxsplit=1)[1:]
+        ensured = ensured[0] if ensured else ''
         cited = set(re.findall(r'[^\s(){}.,;]+', ensured))
-        if 'requires {' in contract:
+        if re.search(r'\brequires\b', contract):
             yield f'{label} is not for all inputs'
         for one in definitions:
-            if one.name.strip('_') not in cited:
+            if one.name.strip('◌') not in cited:
                 yield f'{label} does not cite {one.name}'
         has = {'a contract': ensured, 'a definition': definitions, 'two wrong answers': len(set(edits)) > 1}
         for what in exempt:

@@ -26,7 +26,7 @@ FUNCTION = re.compile(r'^\s*(?:pub(?:\(crate\))? )?(?:extern "C" )?fn ', re.MULT
 def listed():
     """What each crate depends on, by crates.txt."""
     lines = (line.split('#')[0] for line in (ROOT / 'crates.txt').read_text(encoding='utf-8').splitlines())
-    return {name.strip(): needs.split() for name, _, needs in (line.partition(':') for line in lines if ':' in line)}
+    return {name.split()[0]: needs.split() for name, _, needs in (line.partition(':') for line in lines if ':' in line)}
 
 
 def reduced(crates):
@@ -49,7 +49,7 @@ def levels(rests):
 def kind(name, needs):
     if name == 'vector_io' or 'vector_io' in needs:
         return 'test'
-    return 'program' if 'io' in needs else 'library'
+    return 'program' if name == 'program' or 'program' in needs else 'library'
 
 
 # ---- the table

@@ -246,7 +246,7 @@ fn whole_sheet(timed: bool, name: &str) -> Row {
     let top = Path::new(env!("CARGO_MANIFEST_DIR")).join("..");
     let sheet = &std::fs::read(top.join("examples").join(name)).expect("the sheet is there");
     let own = std::env::current_exe().unwrap();
-    let programs = [(top.join("target/bin/run_sheet"), None), (own.clone(), Some("nested")), (own, Some("lists"))];
+    let programs = [(top.join("crates/run_sheet/out/run_sheet"), None), (own.clone(), Some("nested")), (own, Some("lists"))];
     let contenders = ["library", "(a)", "(b)"].into_iter().zip(programs).map(|(name, (path, method))| {
         let run = move |_, output: &mut Vec<u8>| {
             let words = method.map(|method| ["--sheet", method]);

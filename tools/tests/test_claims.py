@@ -19,7 +19,7 @@ pub fn first(a: u64, b: u64) -> u64
 }
 
 fn kept(a: u64) -> u64
-    requires { ⌜ a ≤ 6 ⌝ }
+    requires { a ≤ 6 }
 {
     a
 }
@@ -32,7 +32,7 @@ module _ (A : Type 0) where
 pub record Swaps : Type 0 where
   pub swap : ℕ
 
-abbrev pub _then_ : ℕ → ℕ → ℕ
+abbrev pub ◌then◌ : ℕ → ℕ → ℕ
 ''',
     'crates/pair/specs/Maps.antt': 'pub record Maps (f : ℕ → ℕ) : Type 0 where\n  pub firstOf : ℕ\n  pub kept : ℕ\n',
     'crates/pair/proofs/Pairs.antt': 'pub swaps : Swaps\n\npub swap : ℕ\n',
@@ -55,7 +55,7 @@ FUNCTIONS = '''
 
 | public function | promised by | wrong answers |
 |---|---|---|
-| [`pair::first`] | [`pair.firstOf`], [`pair._then_`] | [`pair!second_returned`], [`pair!zero_returned`] |
+| [`pair::first`] | [`pair.firstOf`], [`pair.◌then◌`] | [`pair!second_returned`], [`pair!zero_returned`] |
 | [`io::read`] | ☐ | ☐ |
 '''
 GOOD = RULES + FUNCTIONS
@@ -181,7 +181,7 @@ class PublicFunctions(Claims):
         self.assertEqual(self.changed('| ☐ |\n| Wrong', '| [`pair!nothing_returned`] |\n| Wrong'), [])
 
     def test_one_wrong_answer(self):
-        tried = '[`pair._then_`] | [`pair!second_returned`]'
+        tried = '[`pair.◌then◌`] | [`pair!second_returned`]'
         listed = EXEMPT | {'two wrong answers': {'io::read', 'pair::first'}}
         for once in tried, f'{tried}, [`pair!second_returned`]':
             page = GOOD.replace(f'{tried}, [`pair!zero_returned`]', once)
@@ -195,17 +195,17 @@ class PublicFunctions(Claims):
         self.assertEqual(self.found(GOOD), ['line 13: pair!zero_returned, a definition edit, stands under wrong answers'])
 
     def test_definition_that_is_not_cited(self):
-        self.assertEqual(self.changed('[`pair._then_`]', '[`pair.specs.swap`]'), ['pair::first does not cite swap'])
-        self.assertEqual(self.changed('[`pair.firstOf`], [`pair._then_`]', '☐'), ['pair::first lacks a definition'])
+        self.assertEqual(self.changed('[`pair.◌then◌`]', '[`pair.specs.swap`]'), ['pair::first does not cite swap'])
+        self.assertEqual(self.changed('[`pair.firstOf`], [`pair.◌then◌`]', '☐'), ['pair::first lacks a definition'])
 
     def test_contract(self):
-        self.put('crates/io/src/lib.rt', 'pub fn read(n: u64) -> u64\n    requires { ⌜ n ≤ 6 ⌝ }\n{\n    0\n}\n')
+        self.put('crates/io/src/lib.rt', 'pub fn read(n: u64) -> u64\n    requires { n ≤ 6 }\n{\n    0\n}\n')
         self.assertEqual(self.found(GOOD), ['io::read is not for all inputs'])
         self.put('crates/io/src/lib.rt', FILES['crates/io/src/lib.rt'])
         self.assertEqual(self.found(GOOD, EXEMPT | {'a contract': set()}), ['io::read lacks a contract'])
 
     def test_exempt_without_need(self):
-        self.put('crates/io/src/lib.rt', 'pub fn read() -> u64\n    ensures { λ r. ⌜ r ≡ 0 ⌝ }\n{\n    0\n}\n')
+        self.put('crates/io/src/lib.rt', 'pub fn read() -> u64\n    ensures { result ≡ 0 }\n{\n    0\n}\n')
         self.assertEqual(self.found(GOOD), ['io::read is listed, and no function of that name lacks a contract'])
         self.put('crates/io/src/lib.rt', FILES['crates/io/src/lib.rt'])
         self.assertEqual(self.found(GOOD, EXEMPT | {'a contract': {'io::read', 'io::print'}}),

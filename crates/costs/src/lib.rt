@@ -8,6 +8,7 @@ ghost use Rattle.costs.specs.Costs.{update_cost, cost_call};
 use sheet_format::{Command, Update};
 
 // The ring operations of an update.
+#[tactic(auto, unfolding(crate::specs::Costs::update_cost))]
 fn update_cost(m: usize, update: Update) -> u64
     requires { m ≤ 5 }
     ensures { result ≡ update_cost m update }
@@ -29,6 +30,7 @@ fn update_cost(m: usize, update: Update) -> u64
 // The ring operations that a command counts in a sheet of the rank if it is obeyed; 0 where it is not in range (whether q has an
 // inverse is not judged here).
 // Example: a product of rank 1 counts 9.
+#[tactic(auto, unfolding(crate::specs::Costs::cost_call, crate::specs::Costs::cost))]
 pub fn cost(rank: usize, command: Command) -> u64
     ensures { result ≡ cost_call rank command }
 {

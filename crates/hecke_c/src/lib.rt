@@ -64,8 +64,8 @@ pub extern "C" fn hecke_tower_length(tower: &[u8], answer: &mut [u64]) -> u64
 // Example: 0 2 gives the word 2 1; it returns 0 and answers 2.
 #[unsafe(no_mangle)]
 pub extern "C" fn hecke_tower_word(tower: &[u8], word: &mut [u8], answer: &mut [u64]) -> u64
-    ensures { tower_word tower.now word.entry.now answer.old
-        ≡ record { word = result; lent = word.exit.now; answer = answer.new } }
+    ensures { tower_word tower.now word.old answer.old
+        ≡ record { word = result; lent = word.new; answer = answer.new } }
 {
     let letters = tower_words::standard_word(tower, word);
     returned::counted(letters, answer)
@@ -125,7 +125,7 @@ pub extern "C" fn hecke_act_word(
     element: &mut [u64],
     answer: &mut [u64],
 ) -> u64
-    ensures { act_word m q word.entry.now element.old answer.old
+    ensures { act_word m q word.now element.old answer.old
         ≡ record { word = result; lent = element.new; answer = answer.new } }
 {
     let done = word_actions::act_word(m, q, word, element);
@@ -143,7 +143,7 @@ pub extern "C" fn hecke_act_signed_word(
     element: &mut [u64],
     answer: &mut [u64],
 ) -> u64
-    ensures { act_signed_word m q word.entry.now element.old answer.old
+    ensures { act_signed_word m q word.now element.old answer.old
         ≡ record { word = result; lent = element.new; answer = answer.new } }
 {
     let done = word_actions::act_signed_word(m, q, word, element);

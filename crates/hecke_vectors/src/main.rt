@@ -18,11 +18,12 @@
 #![tactic(auto)]
 
 use refusals::{Answer, Verdict};
+use std::io;
 use vector_io::{Read, print_field};
 
 // The size of a list, at most that of the slice, whose front its words are put in.
-fn read_words(words: &mut [u64]) -> Read {
-    let Read::Number(size) = vector_io::read_number(2) else {
+fn read_words(input: &mut impl io::Read, words: &mut [u64]) -> Read {
+    let Read::Number(size) = vector_io::read_number(input, 2) else {
         return Read::End;
     };
     let n = size as usize;
@@ -30,7 +31,7 @@ fn read_words(words: &mut [u64]) -> Read {
         return Read::End;
     }
     for i in 0..n {
-        let Read::Number(word) = vector_io::read_number(8) else {
+        let Read::Number(word) = vector_io::read_number(input, 8) else {
             return Read::End;
         };
         words[i] = word;
@@ -39,37 +40,35 @@ fn read_words(words: &mut [u64]) -> Read {
 }
 
 // The same of a list of letters.
-fn read_letters(letters: &mut [u8]) -> Read {
-    let Read::Number(size) = vector_io::read_number(2) else {
+fn read_letters(input: &mut impl io::Read, letters: &mut [u8]) -> Read {
+    let Read::Number(size) = vector_io::read_number(input, 2) else {
         return Read::End;
     };
     let n = size as usize;
     if letters.len() < n {
         return Read::End;
     }
-    if io::read_full(0, &mut letters[0..n]) < n {
+    if input.read_exact(&mut letters[0..n]).is_err() {
         return Read::End;
     }
     Read::Number(size)
 }
 
-fn print_verdict(verdict: Verdict) {
+fn print_verdict(rt: &impl Print, verdict: Verdict) -> io::Result<()> {
     match verdict {
-        Verdict::Accepted => {
-            io::write_all(1, b"A");
-        }
+        Verdict::Accepted => print!(rt; "A"),
         Verdict::Refused(why) => {
-            io::write_all(1, b"E");
-            print_field(refusals::number_of(why) as u64);
-            print_field(refusals::place_of(why) as u64);
+            print!(rt; "E")?;
+            print_field(rt, refusals::number_of(why) as u64)?;
+            print_field(rt, refusals::place_of(why) as u64)
         }
     }
 }
 
-fn print_answer(answer: Answer) {
+fn print_answer(rt: &impl Print, answer: Answer) -> io::Result<()> {
     let verdict = answer.verdict;
-    print_verdict(verdict);
-    print_field(answer.count);
+    print_verdict(rt, verdict)?;
+    print_field(rt, answer.count)
 }
 
 // The words as digits of a number modulo 2^64, the first the highest. The base is odd: each word counts.
@@ -81,33 +80,45 @@ fn digest(words: &[u64]) -> u64 {
     sum
 }
 
-fn print_all(words: &[u64]) {
+fn print_all(rt: &impl Print, words: &[u64]) -> io::Result<()> {
     for i in 0..words.len() {
-        print_field(words[i]);
+        print_field(rt, words[i])?;
     }
+    Ok(())
 }
 
-fn print_words(words: &[u64]) {
+fn print_words(rt: &impl Print, words: &[u64]) -> io::Result<()> {
     if 120 < words.len() {
-        print_field(digest(words));
-        return;
+        return print_field(rt, digest(words));
     }
-    print_all(words);
+    print_all(rt, words)
 }
 
-fn run_sum(m: usize, left: &[u64], right: &[u64], res: &mut [u64]) {
-    print_answer(linear::sum(m, left, right, res));
-    print_words(res);
+fn run_sum(
+    rt: &impl Print,
+    m: usize,
+    left: &[u64],
+    right: &[u64],
+    res: &mut [u64],
+) -> io::Result<()> {
+    print_answer(rt, linear::sum(m, left, right, res))?;
+    print_words(rt, res)
 }
 
-fn run_scale(m: usize, c: u64, element: &[u64], res: &mut [u64]) {
-    print_answer(linear::scale(m, c, element, res));
-    print_words(res);
+fn run_scale(
+    rt: &impl Print,
+    m: usize,
+    c: u64,
+    element: &[u64],
+    res: &mut [u64],
+) -> io::Result<()> {
+    print_answer(rt, linear::scale(m, c, element, res))?;
+    print_words(rt, res)
 }
 
-fn run_word(m: usize, q: u64, word: &[u8], element: &mut [u64]) {
-    print_answer(word_actions::act_word(m, q, word, element));
-    print_words(element);
+fn run_word(rt: &impl Print, m: usize, q: u64, word: &[u8], element: &mut [u64]) -> io::Result<()> {
+    print_answer(rt, word_actions::act_word(m, q, word, element))?;
+    print_words(rt, element)
 }
 
 // The signed letter of a byte, by two's complement.
@@ -129,35 +140,45 @@ fn put_letters(letters: &mut [i8], bytes: &[u8]) {
     }
 }
 
-fn run_signed_word(m: usize, q: u64, bytes: &[u8], element: &mut [u64]) {
+fn run_signed_word(
+    rt: &impl Print,
+    m: usize,
+    q: u64,
+    bytes: &[u8],
+    element: &mut [u64],
+) -> io::Result<()> {
     let mut letters = [0i8; 4097];
     let n = bytes.len();
     if 4097 < n {
-        return;
+        return Ok(());
     }
     put_letters(&mut letters, bytes);
-    print_answer(word_actions::act_signed_word(m, q, &letters[0..n], element));
-    print_words(element);
+    print_answer(
+        rt,
+        word_actions::act_signed_word(m, q, &letters[0..n], element),
+    )?;
+    print_words(rt, element)
 }
 
 fn run_product(
+    rt: &impl Print,
     m: usize,
     q: u64,
     left: &[u64],
     right: &[u64],
     res: &mut [u64],
     scratch: &mut [u64],
-) {
-    print_answer(hecke::product(m, q, left, right, res, scratch));
-    print_words(res);
-    print_field(digest(scratch));
+) -> io::Result<()> {
+    print_answer(rt, hecke::product(m, q, left, right, res, scratch))?;
+    print_words(rt, res)?;
+    print_field(rt, digest(scratch))
 }
 
-fn run_pairing(m: usize, q: u64, left: &[u64], right: &[u64]) {
+fn run_pairing(rt: &impl Print, m: usize, q: u64, left: &[u64], right: &[u64]) -> io::Result<()> {
     let answer = pairings::pairing(m, q, left, right);
     let verdict = answer.verdict;
-    print_verdict(verdict);
-    print_field(answer.value);
+    print_verdict(rt, verdict)?;
+    print_field(rt, answer.value)
 }
 
 // The first of the words, or 0 where there is none.
@@ -168,15 +189,23 @@ fn first(words: &[u64]) -> u64 {
     words[0]
 }
 
-fn run_trace(m: usize, q: u64, z: u64, element: &[u64], scratch: &mut [u64]) {
+fn run_trace(
+    rt: &impl Print,
+    m: usize,
+    q: u64,
+    z: u64,
+    element: &[u64],
+    scratch: &mut [u64],
+) -> io::Result<()> {
     let answer = traces::trace(m, q, z, element, scratch);
     let verdict = answer.verdict;
-    print_verdict(verdict);
-    print_field(answer.value);
-    print_field(digest(scratch));
+    print_verdict(rt, verdict)?;
+    print_field(rt, answer.value)?;
+    print_field(rt, digest(scratch))
 }
 
 fn run(
+    rt: &impl Print,
     call: u8,
     m: usize,
     q: u64,
@@ -185,34 +214,44 @@ fn run(
     word: &[u8],
     res: &mut [u64],
     scratch: &mut [u64],
-) {
+) -> io::Result<()> {
     match call {
-        1 => run_sum(m, left, right, res),
-        2 => run_scale(m, q, left, res),
-        3 => run_word(m, q, word, left),
-        5 => run_signed_word(m, q, word, left),
-        6 => run_pairing(m, q, left, right),
-        7 => run_trace(m, q, first(right), left, scratch),
-        _ => run_product(m, q, left, right, res, scratch),
+        1 => run_sum(rt, m, left, right, res),
+        2 => run_scale(rt, m, q, left, res),
+        3 => run_word(rt, m, q, word, left),
+        5 => run_signed_word(rt, m, q, word, left),
+        6 => run_pairing(rt, m, q, left, right),
+        7 => run_trace(rt, m, q, first(right), left, scratch),
+        _ => run_product(rt, m, q, left, right, res, scratch),
     }
 }
 
 // Runs the call on result and scratch slices of the sizes that are read next, and whether they were there.
-fn lend(call: u8, m: usize, q: u64, left: &mut [u64], right: &[u64], word: &[u8]) -> bool {
+fn lend(
+    rt: &impl Print,
+    input: &mut impl io::Read,
+    call: u8,
+    m: usize,
+    q: u64,
+    left: &mut [u64],
+    right: &[u64],
+    word: &[u8],
+) -> io::Result<bool> {
     let mut result = [170u64; 5041];
     let mut scratch = [170u64; 60500];
-    let Read::Number(result_size) = vector_io::read_number(2) else {
-        return false;
+    let Read::Number(result_size) = vector_io::read_number(input, 2) else {
+        return Ok(false);
     };
-    let Read::Number(scratch_size) = vector_io::read_number(2) else {
-        return false;
+    let Read::Number(scratch_size) = vector_io::read_number(input, 2) else {
+        return Ok(false);
     };
     let n = result_size as usize;
     let k = scratch_size as usize;
     if 5041 < n || 60500 < k {
-        return false;
+        return Ok(false);
     }
     run(
+        rt,
         call,
         m,
         q,
@@ -221,58 +260,76 @@ fn lend(call: u8, m: usize, q: u64, left: &mut [u64], right: &[u64], word: &[u8]
         word,
         &mut result[0..n],
         &mut scratch[0..k],
-    );
-    io::write_all(1, b"\n");
-    true
+    )?;
+    println!(rt)?;
+    Ok(true)
 }
 
 // Reads the lists of a call and runs it, and whether it was all there.
-fn line_of(call: u8, m: usize, q: u64) -> bool {
+fn line_of(
+    rt: &impl Print,
+    input: &mut impl io::Read,
+    call: u8,
+    m: usize,
+    q: u64,
+) -> io::Result<bool> {
     let mut left = [0u64; 5041];
     let mut right = [0u64; 5041];
     let mut word = [0u8; 4097];
-    let Read::Number(left_size) = read_words(&mut left) else {
-        return false;
+    let Read::Number(left_size) = read_words(input, &mut left) else {
+        return Ok(false);
     };
-    let Read::Number(right_size) = read_words(&mut right) else {
-        return false;
+    let Read::Number(right_size) = read_words(input, &mut right) else {
+        return Ok(false);
     };
-    let Read::Number(word_size) = read_letters(&mut word) else {
-        return false;
+    let Read::Number(word_size) = read_letters(input, &mut word) else {
+        return Ok(false);
     };
     let a = left_size as usize;
     let b = right_size as usize;
     let c = word_size as usize;
     if 5041 < a {
-        return false;
+        return Ok(false);
     }
     if 5041 < b {
-        return false;
+        return Ok(false);
     }
     if 4097 < c {
-        return false;
+        return Ok(false);
     }
-    lend(call, m, q, &mut left[0..a], &right[0..b], &word[0..c])
+    lend(
+        rt,
+        input,
+        call,
+        m,
+        q,
+        &mut left[0..a],
+        &right[0..b],
+        &word[0..c],
+    )
 }
 
 // One line, and whether there was a call.
-fn line() -> bool {
-    let Read::Number(call) = vector_io::read_number(1) else {
-        return false;
+fn line(rt: &impl Print, input: &mut impl io::Read) -> io::Result<bool> {
+    let Read::Number(call) = vector_io::read_number(input, 1) else {
+        return Ok(false);
     };
-    let Read::Number(m) = vector_io::read_number(1) else {
-        return false;
+    let Read::Number(m) = vector_io::read_number(input, 1) else {
+        return Ok(false);
     };
-    let Read::Number(q) = vector_io::read_number(8) else {
-        return false;
+    let Read::Number(q) = vector_io::read_number(input, 8) else {
+        return Ok(false);
     };
-    line_of((call % 256) as u8, m as usize, q)
+    line_of(rt, input, (call % 256) as u8, m as usize, q)
 }
 
 // A proved loop ends: 65,536 lines are more than are stored.
-fn main() {
-    let mut left: u64 = 65536;
-    while left > 0 && line() {
-        left -= 1;
+fn main(rt: HostRuntime) -> io::Result<()> {
+    let mut input = rt.reader();
+    for _ in 0..65536 {
+        if !line(&rt, &mut input)? {
+            break;
+        }
     }
+    Ok(())
 }

@@ -4,7 +4,7 @@ use mathlib.Core.Logic.{◌≢◌}
 use mathlib.Core.Bool.{true, false}
 use mathlib.Core.List.{List, [], ◌∷◌, head-eq_of_cons-eq, tail-eq_of_cons-eq, nil≢cons, cons≢nil}
 use Prim.Native.Nat.{ℕ}
-use Rattle.lists.specs.Lists.{same, equal}
+use Rattle.lists.specs.Lists.{equal}
 use Rattle.lists.proofs.Test.{SameView, is, isnt, same?}
 
 data EqualView (w v : List ℕ) : Type 0 where

@@ -9,24 +9,28 @@ ghost use Rattle.operands.specs.Operands.{is_register, update_in_range, query_in
 
 use sheet_format::{Command, Header, Query, Update};
 
+#[tactic(auto, unfolding(crate::specs::Operands::is_register, lists::specs::Lists::less))]
 fn three_registers(d: usize, a: usize, b: usize) -> bool
     ensures { result ≡ (is_register d && is_register a && is_register b) }
 {
     d < 4 && a < 4 && b < 4
 }
 
+#[tactic(auto, unfolding(crate::specs::Operands::is_register, lists::specs::Lists::less))]
 fn two_registers(a: usize, b: usize) -> bool
     ensures { result ≡ (is_register a && is_register b) }
 {
     a < 4 && b < 4
 }
 
+#[tactic(auto, unfolding(lists::specs::Lists::same, lists::specs::Lists::less))]
 fn is_letter(m: usize, i: u8) -> bool
     ensures { result ≡ not (same i 0 || less m i) }
 {
     i != 0 && i as usize <= m
 }
 
+#[tactic(auto, unfolding(crate::specs::Operands::update_in_range, crate::specs::Operands::is_register, lists::specs::Lists::less))]
 fn update_in_range(m: usize, update: Update) -> bool
     requires { m ≤ 6 }
     ensures { result ≡ update_in_range m update }
@@ -42,6 +46,7 @@ fn update_in_range(m: usize, update: Update) -> bool
     }
 }
 
+#[tactic(auto, unfolding(crate::specs::Operands::query_in_range, crate::specs::Operands::is_register, lists::specs::Lists::less))]
 fn query_in_range(query: Query) -> bool
     ensures { result ≡ query_in_range query }
 {
@@ -54,6 +59,7 @@ fn query_in_range(query: Query) -> bool
 }
 
 // Whether the operands are in range in a sheet of rank m.
+#[tactic(auto, unfolding(crate::specs::Operands::operands_in_range, lists::specs::Lists::same))]
 fn operands_in_range(m: usize, command: Command) -> bool
     requires { m ≤ 6 }
     ensures { result ≡ operands_in_range m command }
@@ -68,6 +74,7 @@ fn operands_in_range(m: usize, command: Command) -> bool
 
 // Whether m is the rank of a sheet, and the operands are in range in a sheet of rank m.
 // Example: a letter 3 is out of range at rank 2.
+#[tactic(auto, unfolding(crate::specs::Operands::in_range, lists::specs::Lists::less))]
 pub fn in_range(m: usize, command: Command) -> bool
     ensures { result ≡ in_range m command }
 {
@@ -77,6 +84,7 @@ pub fn in_range(m: usize, command: Command) -> bool
     operands_in_range(m, command)
 }
 
+#[tactic(auto, unfolding(crate::specs::Operands::invertible))]
 fn update_invertible(q: u64, update: Update) -> bool
     ensures { result ≡ invertible q (Change update) }
 {
@@ -93,6 +101,7 @@ fn update_invertible(q: u64, update: Update) -> bool
 
 // Whether q has an inverse modulo 2^64 if the command needs one.
 // Example: with q = 2 a letter needs none, and an inverse letter has none.
+#[tactic(auto, unfolding(crate::specs::Operands::invertible))]
 pub fn invertible(q: u64, command: Command) -> bool
     ensures { result ≡ invertible q command }
 {
@@ -107,6 +116,7 @@ pub fn invertible(q: u64, command: Command) -> bool
 // Whether a sheet that begins with the header may have the command: its operands are in range, and q has an inverse modulo 2^64 if
 // the command needs one.
 // Example: with q = 2 an inverse letter may not run, and with q = 3 it may.
+#[tactic(auto, unfolding(crate::specs::Operands::may_run))]
 pub fn may_run(header: Header, command: Command) -> bool
     ensures { result ≡ may_run header command }
 {

@@ -11,7 +11,7 @@ use Rattle.output.proofs.Decimal.{decimal_digit, decimal_last, by_digits, decima
 digits_value_append : (v : ℕ) (s t : List ℕ) → digits_value v (s ++ t) ≡ digits_value (digits_value v s) t
 unfolding digits_value
 digits_value_append v [] t = refl
-digits_value_append v (d ∷ s) t = digits_value_append _ s t
+digits_value_append v (d ∷ s) t = digits_value_append (10 * v + (d - 48)) s t
 
 one : (n : ℕ) → n < 10 → Spells ((48 + n) ∷ []) n
 unfolding digits_value

@@ -12,7 +12,7 @@
 --   write v b x                   how a call ends that writes the list x into the buffer b
 --   counted v n, spell v b x      the answer of a call that counts; the same with a word that is written, after whose letters the buffer stays
 --   generators v p m              the answer of a call for a set of generators, those at which p holds
---   xCall                         the call x
+--   x_call                        the call x
 --   counted_report a              number, place and count of the answer of a call that counts
 --   generators_report a           the same of the answer for a set of generators
 --   generators_mask a             its mask, 0 for a refusal

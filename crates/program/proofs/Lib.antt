@@ -3,3 +3,5 @@ mod NextText
 -- a piece, and all pieces
 mod Filling
 mod Printing
+-- what is written
+mod Written

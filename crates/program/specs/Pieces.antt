@@ -8,8 +8,11 @@
 --   Printing s h k x sent       what holds at the cursor is `Along`, and what is printed from there on begins `sent` bytes after the front of all that s prints
 --   Printed s h x k sent written   the run has ended with the state at the cursor k and the registers x, or leads on from there to that of the whole run; where the
 --                               last part was written, it has ended, and `sent` is the length of all that s prints
+--   WritesFront old new p written   what a writer holds, where that is known, grows by a front of p, and by all of p where it was written
 --   ReadInto i b                as many bytes as i says, if any, lie within the buffer b
 use Rattle.std.specs.Prelude.{◌≡◌, ◌⊎◌, Bool, true, false, cond, List, [], ◌++◌, ℕ, ◌*◌, ◌≤◌, ◌<◌, length, take, drop}
+use Rattle.std.specs.Io.KnownBytes.{Appends}
+use Rattle.std.specs.declared.option.Option.{Option}
 use Rattle.sheet_format.specs.declared.Header.{Header}
 use Rattle.runner.specs.Run.{State, obey_all, obeyed}
 use Rattle.runner.specs.Turn.{state, ahead, Along}
@@ -48,6 +51,12 @@ pub record Printed (s : List ℕ) (h : Header) (x : List ℕ) (k : Cursor) (sent
   pub text : written ≡ true → sent ≡ length (printed s)
   pub run : written ≡ true → state k x ≡ obeyed s
   pub left : (state_left true s h k x ≡ obeyed s) ⊎ (state_left false s h k x ≡ obeyed s)
+
+pub record WritesFront (old new : Option (List ℕ)) (p : List ℕ) (written : Bool) : Type 0 where
+  pub taken : ℕ
+  pub within : taken ≤ length p
+  pub grown : Appends old new (take taken p)
+  pub whole : written ≡ true → taken ≡ length p
 
 abbrev pub ReadInto : Input → List ℕ → Type 0
 ReadInto (Bytes n) b = n ≤ length b

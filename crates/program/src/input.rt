@@ -1,8 +1,8 @@
-// Bytes from standard input.
+// Bytes from an input.
 
 ghost use Rattle.program.specs.Pieces.{ReadInto};
 
-use libc::STDIN_FILENO;
+use std::io;
 
 // What was read.
 #[derive(Clone, Copy)]
@@ -14,16 +14,14 @@ pub(crate) enum Input {
 }
 
 // Reads until the buffer is full or the input ends.
-pub(crate) fn read(buffer: &mut [u8]) -> Input
+pub(crate) fn read<R: io::Read>(input: &mut R, buffer: &mut [u8]) -> Input
     ensures { ReadInto result buffer.new }
 {
     let mut done = 0;
     while done < buffer.len() {
-        let got = libc::read(STDIN_FILENO, &mut buffer[done..]);
-        if got < 0 {
+        let Ok(n) = input.read(&mut buffer[done..]) else {
             return Input::Unread;
-        }
-        let n = io::count(got, &buffer[done..]);
+        };
         if n == 0 {
             return Input::Bytes(done);
         }

@@ -1,26 +1,28 @@
-// The program: it runs the sheet that stands in standard input, and prints what document 01 says.
+// The program: it runs the sheet that stands in an input, and prints what document 01 says.
 
 #![tactic(auto)]
 
 use input::Input;
-use libc::STDERR_FILENO;
+use std::io;
 
 mod input;
 mod pieces;
 
 // Runs the sheet in standard input. Where that cannot be read, or what is printed cannot be written, it says so on standard error.
-pub fn run_input() {
+pub fn run_input(rt: &(impl io::Input + Print + Eprint)) {
     let mut bytes = [0u8; 4097];
-    let input = input::read(&mut bytes);
+    let mut reader = rt.reader();
+    let input = input::read(&mut reader, &mut bytes);
     match input {
         Input::Bytes(n) => {
-            let handed = pieces::run(&bytes[0..n]);
+            let mut printer = io::writer(rt);
+            let handed = pieces::run(&mut printer, &bytes[0..n]);
             if !handed.written {
-                io::write_all(STDERR_FILENO, b"run_sheet: the output is not whole\n");
+                let _ = eprintln!(rt; "run_sheet: the output is not whole");
             }
         }
         Input::Unread => {
-            io::write_all(STDERR_FILENO, b"run_sheet: standard input cannot be read\n");
+            let _ = eprintln!(rt; "run_sheet: standard input cannot be read");
         }
     }
 }

@@ -1,10 +1,10 @@
 -- Sizes and counts of the ranks 0 to 6, and bounds for them up to a rank, by computing. Rests on lists' Test and First.
 use mathlib.Core.Path.{◌≡◌, refl}
-use Prim.Native.Nat.{ℕ, suc, ◌≤◌}
+use Prim.Native.Nat.{ℕ, suc, ◌≤◌, ◌<◌}
 use native.Mathlib.Omega.{arith}
 use Rattle.lists.specs.Lists.{less, first}
 use Rattle.lists.specs.Numbers.{factorial}
-use Rattle.lists.proofs.Test.{less_no, less_false}
+use Rattle.lists.proofs.Test.{less_yes, less_no, less_false}
 use Rattle.lists.proofs.First.{passed}
 use Rattle.algebra.specs.Cost.{C}
 use Rattle.ranks.specs.Ranks.{size, needed, scratch_size, product_count}
@@ -20,6 +20,10 @@ scratch_size_is m h = rw (less_no h) refl
 pub product_count_is : (m : ℕ) → m ≤ 6 → product_count m ≡ C m m
 unfolding product_count
 product_count_is m h = rw (less_no h) refl
+
+pub scratch_size_none : (m : ℕ) → 6 < m → scratch_size m ≡ 0
+unfolding scratch_size
+scratch_size_none m h = rw (less_yes h) refl
 
 -- ---- bounds
 

@@ -24,6 +24,7 @@ pub fn size(m: usize) -> usize
 
 // (m + 6) M, the number of words of scratch that a product of rank m needs; 0 above rank 6.
 // Example: a product of rank 1 needs 14.
+#[tactic(auto, using(crate::proofs::Sizes::scratch_size_none))]
 pub fn scratch_size(m: usize) -> usize
     ensures { result ≡ scratch_size m }
 {

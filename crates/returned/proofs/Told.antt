@@ -2,9 +2,9 @@
 -- place is above 4,096. Rests on refusals' Verdicts and lists' Test.
 use mathlib.Core.Path.{◌≡◌, refl, sym, ap, ◌∙◌}
 use mathlib.Core.List.{List, [], ◌∷◌}
-use Prim.Native.Nat.{ℕ, zero, suc, ◌≤◌, ◌<◌}
+use Prim.Native.Nat.{ℕ, ◌≤◌, ◌<◌}
 use native.Mathlib.Omega.{arith}
-use lib.ListN.{length, set}
+use lib.ListN.{set}
 use Rattle.lists.proofs.Test.{same_yes, same_no}
 use Rattle.refusals.specs.Refusals.{refusal_number, Report, reported, verdict_report, answer_report, Refuses}
 use Rattle.refusals.specs.declared.Refusal.{Refusal}
@@ -20,11 +20,6 @@ use Rattle.perm_calls.specs.declared.Generators.TheVariants as G
 use Rattle.returned.specs.Returned.{word_of, fill, told, Tells, Returned, returns}
 
 -- ---- words at the front of an answer
-
-pub set_past : (r : List ℕ) (i x : ℕ) → length r ≤ i → set r i x ≡ r
-set_past [] i x h = refl
-set_past (y ∷ r) zero x h = absurd (omega arith)
-set_past (y ∷ r) (suc i) x h = ap {B = List ℕ} (λ s. y ∷ s) (set_past r i x (omega arith))
 
 fill_one : (a : ℕ) (r : List ℕ) → set r 0 a ≡ fill (a ∷ []) r
 unfolding fill

@@ -3,26 +3,31 @@
 
 #![tactic(auto)]
 
+use std::io;
 use vector_io::Read;
 
 // One line, and whether there was a pair.
-fn line() -> bool {
-    let Read::Number(a) = vector_io::read_number(8) else {
-        return false;
+fn line(rt: &impl Print, input: &mut impl io::Read) -> io::Result<bool> {
+    let Read::Number(a) = vector_io::read_number(input, 8) else {
+        return Ok(false);
     };
-    let Read::Number(b) = vector_io::read_number(8) else {
-        return false;
+    let Read::Number(b) = vector_io::read_number(input, 8) else {
+        return Ok(false);
     };
-    io::print_decimal(1, ring::add(a, b));
-    vector_io::print_field(ring::mul(a, b));
-    io::write_all(1, b"\n");
-    true
+    let sum = ring::add(a, b);
+    print!(rt; "{sum}")?;
+    vector_io::print_field(rt, ring::mul(a, b))?;
+    println!(rt)?;
+    Ok(true)
 }
 
 // A proved loop ends: 65,536 lines are more than are stored.
-fn main() {
-    let mut left: u64 = 65536;
-    while left > 0 && line() {
-        left -= 1;
+fn main(rt: HostRuntime) -> io::Result<()> {
+    let mut input = rt.reader();
+    for _ in 0..65536 {
+        if !line(&rt, &mut input)? {
+            break;
+        }
     }
+    Ok(())
 }

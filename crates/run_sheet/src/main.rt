@@ -2,6 +2,6 @@
 
 #![tactic(auto)]
 
-fn main() {
-    program::run_input();
+fn main(rt: HostRuntime) {
+    program::run_input(&rt);
 }

@@ -73,6 +73,7 @@ fn obey_all(sheet: &[u8], x: &mut [u64], header: Header, first: Cursor) -> u64
 }
 
 // The run of a sheet that has begun.
+#[tactic(auto, using(crate::proofs::Ran::registers_refused))]
 fn run_on(sheet: &[u8], x: &mut [u64], header: Header, first: Cursor) -> refusals::Answer
     requires { begin_call sheet.now ≡ Ready header first }
     ensures { run_call sheet.now x.old ≡ record { answer = result; lent = x.new } }

@@ -31,6 +31,7 @@ fn is_begin(command: Command) -> bool
 }
 
 // Whether the first command is begin, or a later one is not.
+#[tactic(auto, unfolding(crate::specs::Check::in_order, lists::specs::Lists::same))]
 fn in_order(at: usize, command: Command) -> bool
     ensures { result ≡ in_order at command }
 {
@@ -49,6 +50,7 @@ pub(crate) enum Judged {
 }
 
 // A command at an offset of a sheet of n bytes that begins with a header, with the offset after it.
+#[tactic(auto, unfolding(crate::specs::Steps::judged_command, lists::specs::Lists::less))]
 fn judge_command(n: usize, head: Header, at: usize, command: Command, after: usize) -> Judged
     ensures { result ≡ judged_command n head at command after }
 {

@@ -13,6 +13,7 @@ mod checks;
 // Refused: 9 a sheet that is empty or over 4,096 bytes; 10 to 13 and 15 each command, lowest offset first: unknown, cut off, out of
 // order, operand out of range, an inverse letter while q has no inverse; 14 a byte after the end command, or no end command.
 // Example: a lone 0x00 is refused with 12 at 0.
+#[tactic(auto, unfolding(crate::specs::Check::check_sheet, lists::specs::Lists::same, lists::specs::Lists::less))]
 pub fn check(sheet: &[u8]) -> Verdict
     ensures { result ≡ check_sheet sheet.now }
 {

@@ -6,8 +6,3 @@ mod Little
 mod Rows
 mod Standing
 pub mod Written
--- the reader
-pub mod Contracts
-pub mod Locals
-pub mod Walks
-pub mod Held

@@ -14,6 +14,7 @@ pub(crate) enum Row {
 }
 
 // The row of a code, with the operands at the front of x.
+#[tactic(auto, unfolding(crate::specs::Format::row, lists::specs::Lists::same))]
 fn row_of(code: u8, x: &[u8]) -> Row
     ensures { result ≡ row code x.now }
 {

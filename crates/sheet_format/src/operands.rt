@@ -4,6 +4,7 @@ ghost use Rattle.std.specs.Prelude.{◌≡◌, ◌+◌, ◌≤◌, ◌<◌, ◌^
 ghost use Rattle.sheet_format.specs.Format.{byte, number};
 
 // Byte i, or 0 past the end.
+#[tactic(auto, unfolding(crate::specs::Format::byte))]
 pub(crate) fn byte(x: &[u8], i: usize) -> u8
     ensures { result ≡ byte x.now i }
 {

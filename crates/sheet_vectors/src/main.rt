@@ -12,70 +12,73 @@
 #![tactic(auto)]
 
 use refusals::Verdict;
+use std::io;
 use vector_io::{Read, print_field};
 
-fn print_ending(ending: Verdict) {
+fn print_ending(rt: &impl Print, ending: Verdict) -> io::Result<()> {
     match ending {
-        Verdict::Accepted => {
-            io::write_all(1, b"A");
-        }
+        Verdict::Accepted => print!(rt; "A"),
         Verdict::Refused(why) => {
-            io::write_all(1, b"E");
-            print_field(refusals::number_of(why) as u64);
-            print_field(refusals::place_of(why) as u64);
+            print!(rt; "E")?;
+            print_field(rt, refusals::number_of(why) as u64)?;
+            print_field(rt, refusals::place_of(why) as u64)
         }
     }
 }
 
 // The register's number, the index and the value of each word that is not 0.
-fn print_register(r: u64, words: &[u64]) {
+fn print_register(rt: &impl Print, r: u64, words: &[u64]) -> io::Result<()> {
     for i in 0..words.len() {
         let word = words[i];
         if word != 0 {
-            print_field(r);
-            print_field(i as u64);
-            print_field(word);
+            print_field(rt, r)?;
+            print_field(rt, i as u64)?;
+            print_field(rt, word)?;
         }
     }
+    Ok(())
 }
 
-fn print_run(sheet: &[u8]) {
+fn print_run(rt: &impl Print, sheet: &[u8]) -> io::Result<()> {
     let done = runner::run(sheet);
     let ending = done.ending;
-    print_ending(ending);
-    print_field(done.count);
+    print_ending(rt, ending)?;
+    print_field(rt, done.count)?;
     let register0 = done.register0;
     let register1 = done.register1;
     let register2 = done.register2;
     let register3 = done.register3;
-    print_register(0, &register0);
-    print_register(1, &register1);
-    print_register(2, &register2);
-    print_register(3, &register3);
-    io::write_all(1, b"\n");
+    print_register(rt, 0, &register0)?;
+    print_register(rt, 1, &register1)?;
+    print_register(rt, 2, &register2)?;
+    print_register(rt, 3, &register3)?;
+    println!(rt)
 }
 
 // One line, and whether there was a sheet.
-fn line() -> bool {
+fn line(rt: &impl Print, input: &mut impl io::Read) -> io::Result<bool> {
     let mut bytes = [0u8; 4097];
-    let Read::Number(size) = vector_io::read_number(2) else {
-        return false;
+    let Read::Number(size) = vector_io::read_number(input, 2) else {
+        return Ok(false);
     };
     let n = size as usize;
     if 4097 < n {
-        return false;
+        return Ok(false);
     }
-    if io::read_full(0, &mut bytes[0..n]) < n {
-        return false;
+    if input.read_exact(&mut bytes[0..n]).is_err() {
+        return Ok(false);
     }
-    print_run(&bytes[0..n]);
-    true
+    print_run(rt, &bytes[0..n])?;
+    Ok(true)
 }
 
 // A proved loop ends: 65,536 lines are more than are stored.
-fn main() {
-    let mut left: u64 = 65536;
-    while left > 0 && line() {
-        left -= 1;
+fn main(rt: HostRuntime) -> io::Result<()> {
+    let mut input = rt.reader();
+    for _ in 0..65536 {
+        if !line(&rt, &mut input)? {
+            break;
+        }
     }
+    Ok(())
 }

@@ -1,9 +1,11 @@
-// What the test programs share: numbers read from standard input, and fields written to standard output.
+// What the test programs share: numbers read from an input, and fields printed.
 
 #![tactic(auto)]
 
-ghost use Rattle.std.specs.Prelude.{◌≡◌, ◌≤◌, length};
+ghost use Rattle.std.specs.Prelude.{◌≡◌, ◌^◌, ◌<◌, ◌≤◌, length};
 ghost use Rattle.vector_io.specs.Numbers.{number, Below};
+
+use std::io;
 
 // What is read of the input: a number, or nothing more.
 #[derive(Clone, Copy)]
@@ -15,7 +17,8 @@ pub enum Read {
 // The number of at most eight bytes, the lowest first.
 fn word_of(bytes: &[u8]) -> u64
     requires { length bytes.now ≤ 8 }
-    ensures { result ≡ number bytes.now }
+    ensures value { result ≡ number bytes.now }
+    ensures below { result < 256 ^ length bytes.now }
 {
     let mut word = 0;
     let mut i = bytes.len();
@@ -28,7 +31,7 @@ fn word_of(bytes: &[u8]) -> u64
 
 // The number that the next bytes make, at most eight of them, the lowest first.
 // Example: the bytes 2 1, with size 2, make 258.
-pub fn read_number(size: usize) -> Read
+pub fn read_number(input: &mut impl io::Read, size: usize) -> Read
     ensures { Below size result }
 {
     if 8 < size {
@@ -36,7 +39,7 @@ pub fn read_number(size: usize) -> Read
     }
     let mut space = [0u8; 8];
     let bytes = &mut space[0..size];
-    if io::read_full(0, bytes) < size {
+    if input.read_exact(bytes).is_err() {
         return Read::End;
     }
     Read::Number(word_of(bytes))
@@ -44,7 +47,6 @@ pub fn read_number(size: usize) -> Read
 
 // A space and the number.
 // Example: for 258 it prints a space and 258.
-pub fn print_field(n: u64) {
-    io::write_all(1, b" ");
-    io::print_decimal(1, n);
+pub fn print_field(rt: &impl Print, n: u64) -> io::Result<()> {
+    print!(rt; " {n}")
 }

@@ -1,5 +1,5 @@
 use Rattle.std.proofs.Common.{rules}
-use Rattle.ring.specs.Modular.{words, modular}
+use Rattle.ring.specs.Modular.{modular}
 use Rattle.ring.proofs.add.Goals as goal
 
 pub returns : goal.returns

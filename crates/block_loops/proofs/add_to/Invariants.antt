@@ -1,0 +1,8 @@
+use Rattle.std.proofs.Common.{◌≡◌, ℕ, length}
+use Rattle.ring.specs.Modular.{words}
+use Rattle.algebra.specs.Element.{plus}
+use Rattle.word_lists.proofs.Loops.{Written}
+use Rattle.block_loops.proofs.add_to.Given as goal
+
+abbrev pub invariant-loop-i : goal.invariant-loop-i
+invariant-loop-i l = (l.i-end ≡ length l.s) × Written (plus ℕ words l.fn.d l.s) l.fn.d l.d l.i

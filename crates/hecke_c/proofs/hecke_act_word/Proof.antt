@@ -1,8 +1,0 @@
--- The call, and what is told of its answer. Rests on Ends.
-use borrow.Author.Rules.{rules}
-use Rattle.hecke_c.proofs.Ends.{answer_call_lem}
-use Rattle.hecke_c.proofs.hecke_act_word.Statement.{statement}
-use Rattle.hecke_c.proofs.hecke_act_word.Tie as tie
-
-pub hecke-act-word-spec : {M : Type 1} → statement M
-hecke-act-word-spec = tie.close (tie.spec (λ c κs. search rules) (λ c κs. search rules) (λ c. search rules) (λ c. search rules) (λ c. search (answer_call_lem, rules)))

@@ -1,0 +1,11 @@
+-- Rests on Written.
+use Rattle.std.proofs.Common.{arith}
+use Rattle.program.proofs.Written.{grown_none, grown_lent, stopped, finished}
+use Rattle.program.proofs.pieces.write_whole.Goals as goal
+
+pub loop-done-init : goal.loop-done-init
+loop-done-init g c = (omega arith, grown_none)
+
+pub loop-done-preserved : goal.loop-done-preserved
+loop-done-preserved g c =
+    grown_lent c.in-Ok.n c.loop-done.invariant.0 c.loop-done.invariant.1 c.in-Ok.ensures.bound c.in-Ok.ensures.bytes
