@@ -42,7 +42,7 @@ finished {i = i} inside all f = record { taken = i; within = inside; grown = f.b
 
 -- the part after the first i bytes of p is handed over: j is how many are handed over with it
 module _ {a b c : Option (List ℕ)} {p part : List ℕ} {i j : ℕ} {written : Bool} (begun : Grown a b p i) (inside : i ≤ length p)
-        (is : part ≡ take (length part) (drop i p)) (w : WritesFront b c part written) (sent : j ≡ i + length part) where
+    (is : part ≡ take (length part) (drop i p)) (w : WritesFront b c part written) (sent : j ≡ i + length part) where
   grown : Grown a c p (i + w.taken)
   grown =
       grown_and w.taken begun

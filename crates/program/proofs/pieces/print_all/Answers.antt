@@ -49,10 +49,9 @@ pub loop-header-preserved : goal.loop-header-preserved
 loop-header-preserved g c =
     let p = c.loop-header.invariant.0 in
     let n = c.fill-filled.result.used - 0 in
-    let large : length c.fill-filled.new.buffer ≡ 65536 = c.fill-filled.auto.buffer ∙ c.loop-header.invariant.1 ∙ c.requires.2 in
-    (
+    let large : length c.fill-filled.new.buffer ≡ 65536 = c.fill-filled.auto.buffer ∙ c.loop-header.invariant.1 ∙ c.requires.2 in (
       (printing_more _ p c.fill-filled.ensures n (omega arith) c.hand_over-handed.ensures.sent large c.if-filled.false).1,
       c.fill-filled.auto.buffer ∙ c.loop-header.invariant.1,
       part_written c.loop-header.invariant.2 p.inside (printing_part _ p c.fill-filled.ensures n (omega arith)) c.hand_over-handed.ensures.bytes
-      c.hand_over-handed.ensures.sent (not-false _ c.if-not-handed.false),
+          c.hand_over-handed.ensures.sent (not-false _ c.if-not-handed.false),
     )

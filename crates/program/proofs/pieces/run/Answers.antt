@@ -13,8 +13,7 @@ slice_bounds-hand_over-end g c = let w = error_within _ _ c.error-n.ensures in o
 pub hand_over-requires : goal.hand_over-requires
 hand_over-requires g c =
     let n = c.error-n.result - 0 in
-    let w = error_within _ _ c.error-n.ensures in
-    (
+    let w = error_within _ _ c.error-n.ensures in (
       refusal_part _ _ (sym c.in-Failed.ensures) (omega arith) c.error-n.ensures n (omega arith),
       omega (arith, w, c.error-n.auto.buffer, length-take-le n c.error-n.new.buffer (omega (arith, w))),
     )
