@@ -1,8 +1,7 @@
 -- Rests on Filling and runner's Turning.
-use Rattle.std.proofs.Common.{◌≡◌, ◌<◌, length, arith, ap, ◌∙◌}
-use Rattle.runner.specs.declared.Cursor.{Cursor}
+use Rattle.std.proofs.Common.{arith}
 use Rattle.runner.proofs.Turning.{along_within}
-use Rattle.program.proofs.Filling.{Filling, filling_fits, filling_more, filling_ends}
+use Rattle.program.proofs.Filling.{filling_fits, filling_more, filling_ends}
 use Rattle.program.proofs.pieces.fill.Goals as goal
 
 pub overflow_add-used : goal.overflow_add-used

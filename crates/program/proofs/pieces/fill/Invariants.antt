@@ -1,5 +1,5 @@
 -- What is obeyed so far is printed at the front of the buffer; the command at the cursor is obeyed next. Rests on Filling.
-use Rattle.std.proofs.Common.{◌≡◌, length, ◌-◌}
+use Rattle.std.proofs.Common.{length, ◌-◌}
 use Rattle.program.proofs.Filling.{Filling}
 use Rattle.program.proofs.pieces.fill.Given as goal
 

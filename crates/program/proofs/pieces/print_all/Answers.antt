@@ -1,8 +1,7 @@
 -- Rests on Printing and Written.
-use Rattle.std.proofs.Common.{◌≡◌, ◌-◌, ◌<◌, ℕ, length, refl, arith, ◌∙◌}
+use Rattle.std.proofs.Common.{◌≡◌, ◌-◌, length, refl, arith, ◌∙◌}
 use borrow.Author.Tests.{not-true, not-false}
 use Rattle.runner.proofs.Turning.{along_within}
-use Rattle.program.specs.Pieces.{Printing}
 use Rattle.program.proofs.Printing.{printing_none, printing_part, printing_fits, printing_more, printing_all}
 use Rattle.program.proofs.Written.{grown_none, part_written, front_failed, front_written}
 use Rattle.program.proofs.pieces.print_all.Goals as goal

@@ -1,6 +1,6 @@
 -- A refused sheet prints its line, and another one all its pieces; each part handed over is of what the sheet prints. Rests on Printing, Written and
 -- output's Front.
-use Rattle.std.proofs.Common.{◌≡◌, ◌-◌, ◌≤◌, length, refl, sym, arith, ap, ◌∙◌}
+use Rattle.std.proofs.Common.{◌-◌, sym, arith}
 use lib.Seq.{length-take-le}
 use Rattle.output.proofs.Front.{error_within}
 use Rattle.program.proofs.Printing.{refusal_part, refusal_size}

@@ -1,6 +1,6 @@
 -- Rests on Written.
 use Rattle.std.proofs.Common.{arith}
-use Rattle.program.proofs.Written.{grown_none, grown_lent, stopped, finished}
+use Rattle.program.proofs.Written.{grown_none, grown_lent}
 use Rattle.program.proofs.pieces.write_whole.Goals as goal
 
 pub loop-done-init : goal.loop-done-init
