@@ -71,6 +71,8 @@ SOURCES = [
     *(('test', f'{folder}/**/*.{ending}', how)
       for folder in ('reference', 'tools', 'rust', 'tests', 'conformance') for ending, how in TESTS.items()),
 ]
+# what these files say, in the folder of a function, is named by the prover and is no theorem
+ANSWERS = {'Answers.antt', 'Invariants.antt'}
 # a line of specs/ or proofs/: its indentation, what it begins, and of what is public whether it is a record, and its name
 LOGIC = re.compile(
     r'^( *)(?:(module|record|data)\b|(?:(?:abbrev|unfoldable) )*pub (record |data )?(\S+)(?: [^:=]*)? :)', re.MULTILINE)
@@ -112,6 +114,8 @@ def declarations(root):
                 yield Declared(kind, name, path.relative_to(root))
     for kind, folder in ('definition', 'specs'), ('theorem', 'proofs'):
         for path in root.glob(f'crates/*/{folder}/**/*.antt'):
+            if path.name in ANSWERS and path.parent.name != folder:
+                continue
             for name, field in logic_names(path.read_text(encoding='utf-8')):
                 yield Declared(kind, name, path.relative_to(root), field)
     for path in root.glob('crates/*/must-fail/*.edit'):

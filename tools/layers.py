@@ -1,9 +1,8 @@
 #!/usr/bin/env python3
 """Makes docs/layers.svg, the picture of the crates and what they rest on, and the table of crates in docs/PROOFS.md.
 
-    tools/layers.py              write both; the seconds in the table stay
-    tools/layers.py --seconds    take the seconds from the logs of the last check, target/log
-    tools/layers.py --check      fail if one of them is not what is made today
+    tools/layers.py            write both; the seconds in the table stay, since they are written by hand
+    tools/layers.py --check    fail if one of them is not what is made today
 """
 import re
 import sys
@@ -65,19 +64,16 @@ def row(name):
     return [*lines, sum(len(FUNCTION.findall(text)) for text in code), len(files(name, 'must-fail', 'edit'))]
 
 
-def seconds(name, page, logged):
-    """The seconds of a crate's check: from its log, where they are asked for and it has them, else from the page."""
-    log = ROOT / 'target' / 'log' / f'{name}.out'
-    said = log.read_text(encoding='utf-8') if logged and log.is_file() else ''
-    found = (re.search(rf'^rt: {name} proved \((\d+) s\)', said, re.MULTILINE)
-             or re.search(rf'^\| `{name}` \|.* (\d*) \|$', page, re.MULTILINE))
+def seconds(name, page):
+    """The seconds of a crate's check, as the page has them."""
+    found = re.search(rf'^\| `{name}` \|.* (\d*) \|$', page, re.MULTILINE)
     return found[1] if found else ''
 
 
-def with_table(page, crates, logged):
+def with_table(page, crates):
     rows = {name: row(name) for name in crates}
     lines = ['| crate | code | definitions | proofs | functions | must-fail edits | check, s |', '|---|--:|--:|--:|--:|--:|--:|']
-    lines += [f'| `{name}` | {" | ".join(map(str, rows[name]))} | {seconds(name, page, logged)} |' for name in crates]
+    lines += [f'| `{name}` | {" | ".join(map(str, rows[name]))} | {seconds(name, page)} |' for name in crates]
     lines += [f'| all | {" | ".join(str(sum(column)) for column in zip(*rows.values()))} | |']
     return TABLE.sub(lambda found: found[1] + '\n' + '\n'.join(lines) + '\n\n' + found[2], page)
 
@@ -305,12 +301,12 @@ def framed(width, height, lines):
 
 
 def main():
-    if set(sys.argv[1:]) - {'--check', '--seconds'}:
+    if set(sys.argv[1:]) - {'--check'}:
         print(__doc__, file=sys.stderr)
         return 2
     crates = listed()
     page = PAGE.read_text(encoding='utf-8')
-    made = {PICTURE: drawn(crates), PAGE: with_table(page, crates, '--seconds' in sys.argv)}
+    made = {PICTURE: drawn(crates), PAGE: with_table(page, crates)}
     if '--check' not in sys.argv:
         for path, text in made.items():
             path.write_text(text, encoding='utf-8')

@@ -1,5 +1,5 @@
 -- Each return is what the tests before it lead to.
-use Rattle.std.proofs.Common.{◌≡◌, List, ℕ, ◌+◌, ◌-◌, ◌≤◌, ◌<◌, length, take, drop, slice_index_or, refl, sym, ap, ◌∙◌, arith, length-drop}
+use Rattle.std.proofs.Common.{◌≡◌, List, ℕ, ◌+◌, ◌-◌, ◌<◌, length, take, drop, slice_index_or, ap, arith, length-drop}
 use Rattle.std.proofs.Math.Seq.{take_all}
 use Rattle.lists.proofs.Test.{less_yes, less_no}
 use Rattle.sheet_format.specs.Format.{byte, row, placed_row, decode}
