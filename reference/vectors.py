@@ -250,7 +250,7 @@ PERMUTATIONS_HEAD = '''-- Permutations as the reference program has them, and wh
 --
 --   vector w t v n x d    w has the tower t, the inverse v, the length n, the standard word x, and a descent set with the mask d
 --   pair u v w            the product of u and v is w
-use mathlib.Core.List.{List, [], _∷_}
+use mathlib.Core.List.{List, [], ◌∷◌}
 use Prim.Native.Nat.{ℕ}
 
 pub record Vector : Type 0 where
@@ -296,7 +296,7 @@ def permutation_tables():
 PRODUCTS_HEAD = '''-- Products as the reference program computes them: written by `python3 -m reference.vectors`.
 --
 --   vector m l q h g k n    h of rank m times g of rank l is k, and takes n ring operations
-use mathlib.Core.List.{List, [], _∷_}
+use mathlib.Core.List.{List, [], ◌∷◌}
 use Prim.Native.Nat.{ℕ}
 
 pub data Vector : Type 0 where
@@ -328,7 +328,7 @@ def algebra_vectors():
 TRACES_HEAD = '''-- Traces as the reference program computes them: written by `python3 -m reference.vectors`.
 --
 --   vector m q z h t    h of rank m has the trace t with the parameter z
-use mathlib.Core.List.{List, [], _∷_}
+use mathlib.Core.List.{List, [], ◌∷◌}
 use Prim.Native.Nat.{ℕ}
 
 pub data Vector : Type 0 where
