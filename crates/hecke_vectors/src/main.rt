@@ -325,7 +325,7 @@ fn line(rt: &impl Print, input: &mut impl io::Read) -> io::Result<bool> {
 
 // A proved loop ends: 65,536 lines are more than are stored.
 fn main(rt: HostRuntime) -> io::Result<()> {
-    let mut input = rt.reader();
+    let mut input = rt.stdin();
     for _ in 0..65536 {
         if !line(&rt, &mut input)? {
             break;

@@ -32,7 +32,7 @@ pub record Filling (s : List ℕ) (h : Header) (from : Cursor) (old t : List ℕ
   pub begun : ((used ≡ 0) × (from ≡ k)) ⊎ (from.at < k.at)
   pub along : Along s h k x
 
-take_put_on : (used n m : ℕ) (b last : List ℕ) → used ≤ length b → n ≤ length last → take (used + n) (put_mid used m b last) ≡ take used b ++ take n last
+pub take_put_on : (used n m : ℕ) (b last : List ℕ) → used ≤ length b → n ≤ length last → take (used + n) (put_mid used m b last) ≡ take used b ++ take n last
 take_put_on used n m b last h l =
     let size = length-take-le used b h in
     ap (λ i. take (i + n) (put_mid used m b last)) (sym size)

@@ -3,5 +3,6 @@ mod NextText
 -- a piece, and all pieces
 mod Filling
 mod Printing
--- what is written
+-- what is read and written
+mod Reading
 mod Written

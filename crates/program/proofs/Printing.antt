@@ -115,7 +115,7 @@ module _ (s : List ℕ) {h : Header} where
 -- its line is all that is printed: n bytes of t, of which m are lent
 module _ (s b : List ℕ) {t : List ℕ} {n : ℕ} {why : Refusal} (e : begin_call s ≡ Failed why) (room : error_room ≤ length b)
     (put : error_call why b ≡ record { answer = n; lent = t }) (m : ℕ) (same : n ≡ m) where
-  pub refusal_is : take m t ≡ printed s
+  refusal_is : take m t ≡ printed s
   unfolding printed error_call
   refusal_is =
       ap (λ m. take m t) (sym same) ∙ front_taken (refusal_text why) b (rw (less_no {x = length b} {a = error_room} room) at put) ∙ rw (begun_failed s e) refl

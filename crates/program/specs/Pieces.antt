@@ -1,4 +1,4 @@
--- What the program prints, piece by piece, and what it is left with.
+-- What the program reads, what it prints, piece by piece, and what it is left with.
 --
 --   text_left ended s h k x     what the sheet s with the header h prints from the cursor k on, with the registers x: nothing where the run has ended
 --   state_left ended s h k x    the state in which its run ends
@@ -10,7 +10,10 @@
 --                               last part was written, it has ended, and `sent` is the length of all that s prints
 --   WritesFront old new p written   what a writer holds, where that is known, grows by a front of p, and by all of p where it was written
 --   ReadInto i b                as many bytes as i says, if any, lie within the buffer b
-use Rattle.std.specs.Prelude.{◌≡◌, ◌⊎◌, Bool, true, false, cond, List, [], ◌++◌, ℕ, ◌*◌, ◌≤◌, ◌<◌, length, take, drop}
+--   ReadFront known i b         as many bytes of b as i says, if any, are what the reader had left, where that is known, as far as the buffer b reaches
+--   Runs known old new e        where it is known what the reader had left, the writer, which held `old`, holds `new`: a front of what the sheet of the first
+--                               4,097 bytes prints is added, or all of it, as e says; nothing where the input could not be read
+use Rattle.std.specs.Prelude.{◌≡◌, ◌⊎◌, Bool, true, false, cond, List, [], ◌++◌, ℕ, ◌*◌, ◌≤◌, ◌<◌, length, take, drop, IfSome}
 use Rattle.std.specs.Io.KnownBytes.{Appends}
 use Rattle.std.specs.declared.option.Option.{Option}
 use Rattle.sheet_format.specs.declared.Header.{Header}
@@ -18,8 +21,10 @@ use Rattle.runner.specs.Run.{State, obey_all, obeyed}
 use Rattle.runner.specs.Turn.{state, ahead, Along}
 use Rattle.runner.specs.declared.Cursor.{Cursor}
 use Rattle.output.specs.Printed.{texts, printed}
+use Rattle.program.specs.declared.Ended.{Ended}
+use Rattle.program.specs.declared.Ended.TheVariants.{Written, Unwritten, Unread}
 use Rattle.program.specs.declared.input.Input.{Input}
-use Rattle.program.specs.declared.input.Input.TheVariants.{Bytes, Unread}
+use Rattle.program.specs.declared.input.Input.TheVariants as input
 
 abbrev pub text_left : Bool → List ℕ → Header → Cursor → List ℕ → List ℕ
 text_left ended s h k x = cond ended [] (texts h (ahead s k.at) (state k x))
@@ -59,5 +64,14 @@ pub record WritesFront (old new : Option (List ℕ)) (p : List ℕ) (written : B
   pub whole : written ≡ true → taken ≡ length p
 
 abbrev pub ReadInto : Input → List ℕ → Type 0
-ReadInto (Bytes n) b = n ≤ length b
-ReadInto Unread b = Unit {0}
+ReadInto (input.Bytes n) b = n ≤ length b
+ReadInto input.Unread b = Unit {0}
+
+abbrev pub ReadFront : Option (List ℕ) → Input → List ℕ → Type 0
+ReadFront known (input.Bytes n) b = IfSome known (λ x. take n b ≡ take (length b) x)
+ReadFront known input.Unread b = Unit {0}
+
+abbrev pub Runs : Option (List ℕ) → Option (List ℕ) → Option (List ℕ) → Ended → Type 0
+Runs known old new Written = IfSome known (λ x. WritesFront old new (printed (take 4097 x)) true)
+Runs known old new Unwritten = IfSome known (λ x. WritesFront old new (printed (take 4097 x)) false)
+Runs known old new Unread = new ≡ old

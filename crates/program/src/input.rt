@@ -1,6 +1,6 @@
 // Bytes from an input.
 
-ghost use Rattle.program.specs.Pieces.{ReadInto};
+ghost use Rattle.program.specs.Pieces.{ReadInto, ReadFront};
 
 use std::io;
 
@@ -15,7 +15,8 @@ pub(crate) enum Input {
 
 // Reads until the buffer is full or the input ends.
 pub(crate) fn read<R: io::Read>(input: &mut R, buffer: &mut [u8]) -> Input
-    ensures { ReadInto result buffer.new }
+    ensures within { ReadInto result buffer.new }
+    ensures bytes { ReadFront (R.remaining input.old) result buffer.new }
 {
     let mut done = 0;
     while done < buffer.len() {

@@ -2,26 +2,49 @@
 
 #![tactic(auto)]
 
+ghost use Rattle.program.specs.Pieces.{Runs};
+
 use input::Input;
 use std::io;
 
 mod input;
 mod pieces;
 
-// Runs the sheet in standard input. Where that cannot be read, or what is printed cannot be written, it says so on standard error.
-pub fn run_input(rt: &(impl io::Input + Print + Eprint)) {
+// How a run ended: with all that the sheet prints written; at a write that failed; at a read that failed, with nothing written.
+#[derive(Clone, Copy)]
+pub enum Ended {
+    Written,
+    Unwritten,
+    Unread,
+}
+
+// Runs the sheet in an input, the first 4,097 bytes of it or all, and writes what it prints.
+pub fn run<R: io::Read, W: io::Write>(input: &mut R, out: &mut W) -> Ended
+    ensures { Runs (R.remaining input.old) (W.contents out.old) (W.contents out.new) result }
+{
     let mut bytes = [0u8; 4097];
-    let mut reader = rt.reader();
-    let input = input::read(&mut reader, &mut bytes);
-    match input {
+    let sheet = input::read(input, &mut bytes);
+    match sheet {
         Input::Bytes(n) => {
-            let mut printer = io::writer(rt);
-            let handed = pieces::run(&mut printer, &bytes[0..n]);
-            if !handed.written {
-                let _ = eprintln!(rt; "run_sheet: the output is not whole");
+            let handed = pieces::run(out, &bytes[0..n]);
+            if handed.written {
+                Ended::Written
+            } else {
+                Ended::Unwritten
             }
         }
-        Input::Unread => {
+        Input::Unread => Ended::Unread,
+    }
+}
+
+// Runs the sheet in an input, and prints. Where that cannot be read, or what is printed cannot be written, it says so on standard error.
+pub fn run_input(input: &mut impl io::Read, rt: &(impl Print + Eprint)) {
+    match run(input, &mut io::writer(rt)) {
+        Ended::Written => {}
+        Ended::Unwritten => {
+            let _ = eprintln!(rt; "run_sheet: the output is not whole");
+        }
+        Ended::Unread => {
             let _ = eprintln!(rt; "run_sheet: standard input cannot be read");
         }
     }

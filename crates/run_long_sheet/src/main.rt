@@ -3,5 +3,5 @@
 #![tactic(auto)]
 
 fn main(rt: HostRuntime) {
-    program::run_input(&rt);
+    program::run_input(&mut rt.stdin(), &rt);
 }
