@@ -34,12 +34,6 @@ grown_lent {a} {b} {c} {p} {i} n inside f bound g =
     let short : n ≤ length (drop i p) = subst (λ q. n ≤ length q) rest bound in
     (omega (arith, short, size), grown_and n f (subst (λ q. Appends b c (take n q)) rest g))
 
-pub stopped : {a b : Option (List ℕ)} {p : List ℕ} {i : ℕ} → i ≤ length p → Grown a b p i → WritesFront a b p false
-stopped {i = i} inside f = record { taken = i; within = inside; grown = f.bytes; whole = λ e. let z : ◌≡◌ {A = ℕ} 0 1 = cc in absurd (omega arith) }
-
-pub finished : {a b : Option (List ℕ)} {p : List ℕ} {i : ℕ} → i ≤ length p → length p ≤ i → Grown a b p i → WritesFront a b p true
-finished {i = i} inside all f = record { taken = i; within = inside; grown = f.bytes; whole = λ e. omega (arith, inside, all) }
-
 -- the part after the first i bytes of p is handed over: j is how many are handed over with it
 module _ {a b c : Option (List ℕ)} {p part : List ℕ} {i j : ℕ} {written : Bool} (begun : Grown a b p i) (inside : i ≤ length p)
     (is : part ≡ take (length part) (drop i p)) (w : WritesFront b c part written) (sent : j ≡ i + length part) where
