@@ -1,5 +1,5 @@
-"""The walk over an image list reads each image once: the code has one index expression on the list, in the loop of the walk, hands the
-list on to one walk, and else asks for its length."""
+"""The walk over an image list reads each image once: the code goes over the list in one place, the loop of the walk, hands the list on to
+one walk, and else asks for its length."""
 import re
 import unittest
 from pathlib import Path
@@ -16,8 +16,8 @@ def code():
 class Reads(unittest.TestCase):
     def test_an_image_is_read_at_one_place(self):
         text = code()
-        uses = re.findall(r'\w*\(images, |images: |images\.len\(\)|images\S*', text)
-        handed = [use for use in uses if use not in ('images: ', 'images.len()')]
-        self.assertEqual(handed, ['images[i],', 'walk(images, ', 'vet(images, '])
-        loop = re.search(r'fn walk\(.*?    for i in 0\.\.images\.len\(\) \{\n(.*?)\n    \}\n', text, re.DOTALL).group(1)
-        self.assertIn('images[i]', loop)
+        uses = re.findall(r'\w*\(images, |images: |images\.(?:len|is_empty)\(\)|images\S*', text)
+        handed = [use for use in uses if use not in ('images: ', 'images.len()', 'images.is_empty()')]
+        self.assertEqual(handed, ['images.iter().enumerate()', 'walk(images, ', 'vet(images, '])
+        loop = re.search(r'fn walk\(.*?    for \(i, x\) in images\.iter\(\)\.enumerate\(\) \{\n(.*?)\n    \}\n', text, re.DOTALL).group(1)
+        self.assertNotRegex(loop, r'images(?!\.len\(\))')

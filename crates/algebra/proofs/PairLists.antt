@@ -5,7 +5,7 @@ use mathlib.Core.List.{List, [], ◌∷◌, ◌++◌}
 use Prim.Native.Nat.{ℕ, zero, suc, ◌+◌, ◌*◌, ◌≤◌, ◌<◌}
 use native.Mathlib.Nat.{le_of_suc-le-suc, add-mul}
 use native.Mathlib.Omega.{arith}
-use lib.ListN.{length, get_or, take, drop, length-drop, length-append}
+use lib.ListN.{length, get_or, take, drop, length-drop}
 use lib.Seq.{take-add, take_at, drop_at, drop-drop, length-take-le}
 use Rattle.ring.specs.Ring.{Ops}
 use Rattle.lists.specs.Blocks.{block}
@@ -32,13 +32,6 @@ module _ {A : Type 0} where
 
   halves : (b : ℕ) (x : List A) → length x ≡ b + b → length (take b x) ≡ length (drop b x)
   halves b x e = length-take-le b x (omega arith) ∙ sym (length-drop b x ∙ omega arith)
-
-  pub exchanged_length : (f : OnPair A) (b : ℕ) (x : List A) → length x ≡ b + b → length (exchanged f b x) ≡ length x
-  unfolding exchanged
-  exchanged_length f b x e =
-      let h = halves b x e in
-      length-append (zipped f.shorter (take b x) (drop b x)) _
-      ∙ omega (arith, zipped_length f.shorter (take b x) (drop b x) h, zipped_length f.longer (take b x) (drop b x) h, length-take-le b x (omega arith))
 
   -- the blocks a and a + 1
   pub exchanged_blocks : (f : OnPair A) (b a : ℕ) (x : List A) → (a + 2) * b ≤ length x

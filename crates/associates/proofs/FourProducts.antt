@@ -7,7 +7,7 @@ use Prim.Native.Nat.{ℕ, suc, ◌+◌, ◌*◌, ◌≤◌}
 use native.Mathlib.Omega.{arith}
 use lib.ListN.{length}
 use Rattle.lists.specs.Numbers.{factorial}
-use Rattle.refusals.specs.declared.Answer.{Answer}
+use Rattle.refusals.specs.Refusals.{Answered}
 use Rattle.algebra.specs.Product.{times}
 use Rattle.element_calls.specs.Coefficients.{ring, Coefficient, parameters_of}
 use Rattle.element_calls.specs.Calls.{product_call}
@@ -18,7 +18,7 @@ use Rattle.element_calls.proofs.Demand3.{demand_3}
 use Rattle.associates.specs.Sizes.{Sizes}
 
 pub record Called (m q : ℕ) (h g r s r' s' : List ℕ) : Type 0 where
-  pub answer : Answer
+  pub answer : Answered
   pub ensures : product_call m q h g r s ≡ record { answer = answer; lent = record { result = r'; scratch = s' } }
   pub kept : length s' ≡ length s
 

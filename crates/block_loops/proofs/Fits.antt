@@ -1,10 +1,9 @@
--- What the loops leave, where the sizes fit and where they do not. Rests on lists' Test.
+-- What the loops leave, where the sizes fit. Rests on lists' Test.
 use mathlib.Core.Path.{◌≡◌, refl}
-use mathlib.Core.Logic.{◌≢◌}
 use mathlib.Core.List.{List, ◌++◌}
 use Prim.Native.Nat.{ℕ, ◌+◌}
 use lib.ListN.{length, drop}
-use Rattle.lists.proofs.Test.{same_yes, same_no}
+use Rattle.lists.proofs.Test.{same_yes}
 use Rattle.algebra.specs.Element.{plus, scale}
 use Rattle.algebra.specs.Pairs.{exchanged}
 use Rattle.element_calls.specs.declared.Parameters.{Parameters}
@@ -16,39 +15,19 @@ pub exchange_fits : (w : Way) (p : Parameters) (b : ℕ) (x : List ℕ) → leng
 unfolding exchange_in
 exchange_fits w p b x e = rw (same_yes e) refl
 
-pub exchange_not : (w : Way) (p : Parameters) (b : ℕ) (x : List ℕ) → length x ≢ b + b → exchange_in w p b x ≡ x
-unfolding exchange_in
-exchange_not w p b x n = rw (same_no n) refl
-
 module _ (p : Parameters) where
   pub add_fits : (d s : List ℕ) → length d ≡ length s → add_to p d s ≡ plus ℕ (ring p) d s
   unfolding add_to
   add_fits d s e = rw (same_yes e) refl
 
-  pub add_not : (d s : List ℕ) → length d ≢ length s → add_to p d s ≡ d
-  unfolding add_to
-  add_not d s n = rw (same_no n) refl
-
   pub multiple_fits : (d : List ℕ) (c : ℕ) (s : List ℕ) → length d ≡ length s → add_multiple p d c s ≡ plus ℕ (ring p) d (scale ℕ (ring p) c s)
   unfolding add_multiple
   multiple_fits d c s e = rw (same_yes e) refl
-
-  pub multiple_not : (d : List ℕ) (c : ℕ) (s : List ℕ) → length d ≢ length s → add_multiple p d c s ≡ d
-  unfolding add_multiple
-  multiple_not d c s n = rw (same_no n) refl
 
   pub fold_fits : (d s : List ℕ) → length d ≡ length s → fold_into p d s ≡ plus ℕ (ring p) s (scale ℕ (ring p) p.r d)
   unfolding fold_into
   fold_fits d s e = rw (same_yes e) refl
 
-  pub fold_not : (d s : List ℕ) → length d ≢ length s → fold_into p d s ≡ d
-  unfolding fold_into
-  fold_not d s n = rw (same_no n) refl
-
   pub move_fits : (b : ℕ) (x : List ℕ) → length x ≡ b + b → move_down p b x ≡ scale ℕ (ring p) p.q (drop b x) ++ drop b x
   unfolding move_down
   move_fits b x e = rw (same_yes e) refl
-
-  pub move_not : (b : ℕ) (x : List ℕ) → length x ≢ b + b → move_down p b x ≡ x
-  unfolding move_down
-  move_not b x n = rw (same_no n) refl

@@ -1,22 +1,19 @@
 -- A loop that writes a list of b words over the first of two blocks, from the end; the second block stays. Rests on Paired and word_lists' Loops.
 --
 --   Lowered b s x₀ x i   the words of x from i to b are those of s, and the others as they were in x₀
-use mathlib.Core.Path.{◌≡◌, refl, sym, ap, subst, ◌∙◌}
+use mathlib.Core.Path.{◌≡◌, sym, ap, subst, ◌∙◌}
 use mathlib.Core.List.{List, ◌++◌}
 use Prim.Native.Nat.{ℕ, suc, ◌+◌, ◌≤◌}
 use native.Mathlib.Omega.{arith}
 use lib.ListN.{length, get_or, set, take, drop, length-set, take-append-drop}
 use lib.Seq.{get_or-drop, take-set-lt, drop-set-lt}
-use Rattle.word_lists.proofs.Loops.{WrittenFrom, from_none, from_more, from_all}
+use Rattle.word_lists.proofs.Loops.{WrittenFrom, from_more, from_all}
 use Rattle.block_loops.proofs.Paired.{low_size}
 
 pub record Lowered (b : ℕ) (s x₀ x : List ℕ) (i : ℕ) : Type 0 where
   pub same : length x ≡ length x₀
   pub low : WrittenFrom s (take b x₀) (take b x) i
   pub high : drop b x ≡ drop b x₀
-
-pub lowered_none : (b : ℕ) (s x : List ℕ) → length x ≡ b + b → Lowered b s x x b
-lowered_none b s x e = record { same = refl; low = from_none _ _ b (omega (arith, low_size b x e)); high = refl }
 
 pub lowered_more : {b i : ℕ} {s x₀ x : List ℕ} (j v : ℕ) → Lowered b s x₀ x i → length x₀ ≡ b + b → i ≡ suc j → i ≤ b → v ≡ get_or s j 0
     → Lowered b s x₀ (set x j v) j

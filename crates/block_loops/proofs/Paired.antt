@@ -3,16 +3,16 @@
 --
 --   Exchanged b s t x₀ x i   the words from i on of both halves of x are those of s and of t, and the others as they were in x₀
 --   Paired f b x₀ x i        f has acted on the pairs from i on of the two blocks x₀
-use mathlib.Core.Path.{◌≡◌, refl, sym, ap, ap₂, subst, ◌∙◌}
+use mathlib.Core.Path.{◌≡◌, sym, ap, ap₂, subst, ◌∙◌}
 use mathlib.Core.List.{List, ◌++◌}
 use Prim.Native.Nat.{ℕ, suc, ◌+◌, ◌≤◌}
 use native.Mathlib.Nat.{le-add_right}
 use native.Mathlib.Omega.{arith}
 use lib.ListN.{length, get_or, set, take, drop, length-drop, length-set, take-append-drop}
-use lib.Seq.{length-take-le, get_or-take, get_or-drop, take-set-lt, take-set-le, drop-set-lt, drop-set-add, set_comm}
+use lib.Seq.{length-take-le, get_or-take, get_or-drop, take-set-lt, take-set-le, drop-set-lt, drop-set-add}
 use Rattle.algebra.specs.Pairs.{OnPair, zipped, exchanged}
 use Rattle.algebra.proofs.PairLists.{zipped_length, get_or_zipped}
-use Rattle.word_lists.proofs.Loops.{WrittenFrom, from_none, from_more, from_all}
+use Rattle.word_lists.proofs.Loops.{WrittenFrom, from_more, from_all}
 
 pub record Exchanged (b : ℕ) (s t x₀ x : List ℕ) (i : ℕ) : Type 0 where
   pub same : length x ≡ length x₀
@@ -28,13 +28,6 @@ pub high_size : (b : ℕ) (x : List ℕ) → length x ≡ b + b → length (drop
 high_size b x e = length-drop b x ∙ omega arith
 
 -- ---- the loop
-
-exchanged_none : (b : ℕ) (s t x : List ℕ) → length x ≡ b + b → Exchanged b s t x x b
-exchanged_none b s t x e = record {
-  same = refl;
-  low = from_none _ _ b (omega (arith, low_size b x e));
-  high = from_none _ _ b (omega (arith, high_size b x e));
-}
 
 exchanged_more : {b i : ℕ} {s t x₀ x : List ℕ} (j u v : ℕ) → Exchanged b s t x₀ x i → length x₀ ≡ b + b → i ≡ suc j → i ≤ b
     → u ≡ get_or s j 0 → v ≡ get_or t j 0 → Exchanged b s t x₀ (set (set x j u) (b + j) v) j
@@ -84,21 +77,12 @@ module _ (f : OnPair ℕ) (b : ℕ) (x₀ : List ℕ) where
     halves : length (take b x₀) ≡ length (drop b x₀)
     halves = low_size b x₀ two ∙ sym (high_size b x₀ two)
 
-    pub paired_none : Paired x₀ b
-    paired_none = exchanged_none b shorter longer x₀ two
-
     pub paired_more : {x : List ℕ} {i : ℕ} (j u v : ℕ) → Paired x i → i ≡ suc j → i ≤ b → u ≡ f.shorter (get_or x j 0) (get_or x (b + j) 0)
         → v ≡ f.longer (get_or x j 0) (get_or x (b + j) 0) → Paired (set (set x j u) (b + j) v) j
     paired_more {x} {i} j u v h n l eu ev = exchanged_more j u v h two n l (eu ∙ at f.shorter) (ev ∙ at f.longer)
       where
         at : (g : ℕ → ℕ → ℕ) → g (get_or x j 0) (get_or x (b + j) 0) ≡ get_or (zipped g (take b x₀) (drop b x₀)) j 0
         at g = ap₂ g (exchanged_low j h n l) (exchanged_high j h n) ∙ sym (get_or_zipped g (take b x₀) (drop b x₀) j 0 (omega (arith, low_size b x₀ two)) halves)
-
-    -- the same with the words written in the other order
-    pub paired_more' : {x : List ℕ} {i : ℕ} (j u v : ℕ) → Paired x i → i ≡ suc j → i ≤ b → u ≡ f.shorter (get_or x j 0) (get_or x (b + j) 0)
-        → v ≡ f.longer (get_or x j 0) (get_or x (b + j) 0) → Paired (set (set x (b + j) v) j u) j
-    paired_more' {x} {i} j u v h n l eu ev =
-        subst (λ (y : List ℕ). Paired y j) (set_comm x j (b + j) u v (λ e. omega arith)) (paired_more j u v h n l eu ev)
 
     pub paired_all : {x : List ℕ} {i : ℕ} → Paired x i → i ≡ 0 → x ≡ exchanged f b x₀
     unfolding exchanged

@@ -1,14 +1,12 @@
 -- What `act` leaves where all fits, and where not. Rests on LowCycles, lists' Test and letters' Fits.
 use mathlib.Core.Path.{◌≡◌, refl, sym, ap, ◌∙◌}
-use mathlib.Core.Bool.{Bool, true, false, not, ◌&&◌}
-use mathlib.Core.Logic.{◌≢◌}
+use mathlib.Core.Bool.{Bool, true, false}
 use mathlib.Core.List.{List}
-use Prim.Native.Nat.{ℕ, suc, ◌≤◌, ◌<◌}
+use Prim.Native.Nat.{ℕ}
 use native.Mathlib.Omega.{arith}
 use lib.ListN.{length}
-use Rattle.lists.specs.Lists.{less, bit}
-use Rattle.lists.specs.Numbers.{factorial}
-use Rattle.lists.proofs.Test.{SameView, is, isnt, same?, LessView, lt, ge, less?, same_yes, same_no, less_yes, less_no}
+use Rattle.std.proofs.lemmas.Bool.Decides.{nat_tests}
+use Rattle.lists.specs.Lists.{same, less}
 use Rattle.element_calls.specs.declared.Parameters.{Parameters}
 use Rattle.block_loops.specs.declared.Way.TheVariants.{Forward}
 use Rattle.letters.specs.Letters.{letter_fits, letter_in, LetterPre}
@@ -17,66 +15,21 @@ use Rattle.cycles.specs.Steps.{acted, ActPre}
 use Rattle.cycles.specs.InPlace.{act_fits, act_in}
 use Rattle.cycles.proofs.LowCycles.{acted_none, letter_pre, letter_acted}
 
--- ---- the test, where it ends
-
-pub rank_not : (j l n w : ℕ) {m : ℕ} → 6 < m → false ≡ act_fits m j l n w
-unfolding act_fits
-rank_not j l n w e = rw (less_yes e) refl
-
-module _ {m : ℕ} (rank : m ≤ 6) where
-  pub below_not : {j : ℕ} (l n w : ℕ) → m < j → false ≡ act_fits m j l n w
-  unfolding act_fits
-  below_not l n w e = rw (less_no rank, less_yes e) refl
-
-  pub within_not : {j l : ℕ} (n w : ℕ) → j ≤ m → j < l → false ≡ act_fits m j l n w
-  unfolding act_fits
-  within_not n w a e = rw (less_no rank, less_no a, less_yes e) refl
-
-  pub size_not : {j l n : ℕ} (w : ℕ) → j ≤ m → l ≤ j → n ≢ factorial (suc m) → false ≡ act_fits m j l n w
-  unfolding act_fits
-  size_not w a b e = rw (less_no rank, less_no a, less_no b, same_no e) refl
-
-  pub work_left : {j l n : ℕ} (w : ℕ) → j ≤ m → l ≤ j → n ≡ factorial (suc m) → not (less 1 l && less w (factorial (suc m))) ≡ act_fits m j l n w
-  unfolding act_fits
-  work_left w a b c = rw (less_no rank, less_no a, less_no b, same_yes c) refl
-
--- ---- the work slice, of w words for s
-
-pub work_short : {l w s : ℕ} → 2 ≤ l → w < s → not (less 1 l && less w s) ≡ false
-work_short two h = rw (less_yes two, less_yes h) refl
-
-pub work_enough : (l w s : ℕ) → (2 ≤ l → s ≤ w) → not (less 1 l && less w s) ≡ true
-work_enough l w s h = go (less? 1 l)
-  where
-    go : LessView 1 l → not (less 1 l && less w s) ≡ true
-    go (lt two e) = rw (e, less_no (h two)) refl
-    go (ge few e) = rw e refl
-
--- ---- what the test says
+-- ---- the test
 
 pre_fits : {m j l : ℕ} {x w : List ℕ} → ActPre m j l x w → act_fits m j l (length x) (length w) ≡ true
-pre_fits {m} {j} {l} {x} {w} c =
-    sym (work_left c.rank (length w) c.below c.within c.size) ∙ work_enough l (length w) (factorial (suc m)) c.work
+unfolding act_fits same less
+pre_fits {m} {j} {l} {x} {w} c = let a = c.rank in let b = c.below in let d = c.within in let e = c.size in let f = c.work in grind (arith, nat_tests)
 
 fit_pre : (m j l : ℕ) (x w : List ℕ) → act_fits m j l (length x) (length w) ≡ true → ActPre m j l x w
-fit_pre m j l x w e = go (less? 6 m) (less? m j) (less? j l) (same? (length x) size)
-  where
-    size : ℕ
-    size = factorial (suc m)
-
-    refused : {A : Type 0} → false ≡ act_fits m j l (length x) (length w) → A
-    refused n = absurd (omega (arith, ap bit (n ∙ e)))
-
-    go : LessView 6 m → LessView m j → LessView j l → SameView (length x) size → ActPre m j l x w
-    go (lt a _) _ _ _ = refused (rank_not j l (length x) (length w) a)
-    go (ge a _) (lt b _) _ _ = refused (below_not a l (length x) (length w) b)
-    go (ge a _) (ge b _) (lt c _) _ = refused (within_not a (length x) (length w) b c)
-    go (ge a _) (ge b _) (ge c _) (isnt d _) = refused (size_not a (length w) b c d)
-    go (ge a _) (ge b _) (ge c _) (is d _) = record { rank = a; below = b; within = c; size = d; work = λ two. enough two (less? (length w) size) }
-      where
-        enough : 2 ≤ l → LessView (length w) size → size ≤ length w
-        enough two (lt s _) = refused (sym (work_short two s) ∙ work_left a (length w) b c d)
-        enough two (ge s _) = s
+unfolding act_fits same less
+fit_pre m j l x w e = record {
+  rank = grind (arith, nat_tests);
+  below = grind (arith, nat_tests);
+  within = grind (arith, nat_tests);
+  size = grind (arith, nat_tests);
+  work = λ two. grind (arith, nat_tests);
+}
 
 pub answer_pre : (m j l : ℕ) (x w : List ℕ) {b : Bool} → b ≡ act_fits m j l (length x) (length w) → b ≡ true → ActPre m j l x w
 answer_pre m j l x w d e = fit_pre m j l x w (sym d ∙ e)

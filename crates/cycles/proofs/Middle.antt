@@ -17,13 +17,13 @@ use Rattle.lists.specs.Lists.{range}
 use Rattle.lists.specs.Blocks.{block, blocks}
 use Rattle.lists.proofs.Range.{length_range, range_snoc}
 use Rattle.lists.proofs.Blocks.{block_size, blocks_add, blocks_cong, map_blocks}
-use Rattle.lists.proofs.Parts.{part_block, part_size, rest_size}
+use Rattle.lists.proofs.Parts.{part_block, part_size}
 use Rattle.lists.proofs.LentAgain.{part_put, put_put}
 use Rattle.lists.proofs.Passed.{Passed, passed_more, passed_all}
 use Rattle.algebra.specs.Element.{plus, scale}
 use Rattle.element_calls.specs.declared.Parameters.{Parameters}
 use Rattle.element_calls.specs.Coefficients.{ring}
-use Rattle.cycles.specs.Steps.{sums, collected, acted, kept, shifted, joint, ActPre, MiddlePre}
+use Rattle.cycles.specs.Steps.{sums, collected, acted, kept, shifted, joint}
 use Rattle.cycles.proofs.Sums.{collected_sums}
 
 -- ---- the work slice in a step: its words after the first b are lent, the sum is collected in the first b, and the others are lent again
@@ -40,16 +40,6 @@ module _ (p : Parameters) (b : ℕ) (w u₁ w₂ u₂ : List ℕ) (s₁ : length
       take_put b (length w₂ - b) w₂ u₂ (omega arith) ∙ e ∙ ap (λ (v : List ℕ). collected p i v y) (take_put b (length w - b) w u₁ (omega arith))
 
 -- ---- a step
-
-pub step_pre : {m b j l j' l' : ℕ} {x₀ w₀ : List ℕ} (i : ℕ) (x w : List ℕ) → MiddlePre m b j l x₀ w₀ → j' ≤ m → l' ≤ j'
-    → (i + 1) * b + b ≤ length x → b + b ≤ length w → ActPre m j' l' (mid_of ((i + 1) * b) ((i + 1) * b + b - (i + 1) * b) x) (mid_of b (length w - b) w)
-step_pre {b = b} i x w p below within fits enough = record {
-  rank = omega (arith, p.rank);
-  below = below;
-  within = within;
-  size = part_size b (i + 1) x fits ∙ p.block_size;
-  work = λ h. omega (arith, rest_size b w, p.block_size);
-}
 
 module _ (p : Parameters) (m j l : ℕ) where
   unfoldable pub on_block : ℕ → List ℕ → List ℕ

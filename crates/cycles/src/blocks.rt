@@ -1,4 +1,5 @@
-// What a step of the action and its end do to blocks of an element, for the parameters p.
+// What a step of the action and its end do to blocks of an element, for the parameters p. Block k is lent as the part from k b on, the
+// form that document 01 asks for.
 
 ghost use Rattle.std.specs.Prelude.{◌≡◌, suc, ◌+◌, ◌*◌, ◌≤◌, length, take};
 ghost use Rattle.lists.specs.Blocks.{block};

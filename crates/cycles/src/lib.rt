@@ -6,7 +6,7 @@
 ghost use Rattle.std.specs.Prelude.{◌≡◌, ◌≤◌, length};
 ghost use Rattle.cycles.specs.InPlace.{act_fits, act_in};
 
-use block_loops::Way;
+use block_loops::Forward;
 use element_calls::Parameters;
 
 mod action;
@@ -18,7 +18,7 @@ pub fn act(x: &mut [u64], work: &mut [u64], m: usize, j: usize, l: usize, p: Par
     ensures { x.new ≡ act_in p m j l (length work.old) x.old }
 {
     if l == 1 {
-        letters::letter(x, m, j, Way::Forward, p);
+        letters::letter::<Forward>(x, m, j, p);
         return;
     }
     if l == 0 {
@@ -31,25 +31,14 @@ pub fn act(x: &mut [u64], work: &mut [u64], m: usize, j: usize, l: usize, p: Par
 }
 
 // Whether, for l of 2 and above, l ≤ j ≤ m ≤ 6, n is the number of words of an element of rank m and w words of work suffice.
+#[tactic(auto, using(ranks::proofs::Sizes::size_is), unfolding(crate::specs::InPlace::act_fits, lists::specs::Lists::same, lists::specs::Lists::less))]
 fn level_fits(m: usize, j: usize, l: usize, n: usize, w: usize) -> bool
     requires { 2 ≤ l }
     ensures { result ≡ act_fits m j l n w }
 {
-    if 6 < m {
-        return false;
-    }
-    if m < j {
-        return false;
-    }
-    if j < l {
+    if 6 < m || m < j || j < l {
         return false;
     }
     let size = ranks::size(m);
-    if n != size {
-        return false;
-    }
-    if w < size {
-        return false;
-    }
-    true
+    n == size && size <= w
 }

@@ -10,7 +10,6 @@ use Rattle.ring.specs.Modular.{words}
 use Rattle.lists.specs.Lists.{less}
 use Rattle.lists.specs.Numbers.{factorial}
 use Rattle.lists.proofs.Tally.{tally_size}
-use Rattle.refusals.specs.declared.Verdict.TheVariants.{Accepted}
 use Rattle.perms.specs.Permutation.{Perm, below, len, Word, Shortest}
 use Rattle.perms.proofs.Reduced.{short_perm}
 use Rattle.algebra.specs.Cost.{bound}
@@ -25,6 +24,7 @@ use Rattle.element_calls.specs.Demand3.{E, Demand3}
 use Rattle.element_calls.proofs.Verdicts.{rank_taken, size_taken, scratch_taken, word_taken}
 use Rattle.element_calls.proofs.Calls.{product_counted}
 use Rattle.element_calls.proofs.Answers.{sum_verdict, sum_lent, sum_counted, scale_verdict, scale_lent, scale_counted, act_verdict, act_lent, act_counted, product_verdict, product_lent, product_cleared, product_counts}
+use Rattle.std.specs.Prelude.{Ok}
 
 -- ---- a shortest word is within the limit
 
@@ -68,10 +68,10 @@ demand_3 m q rank hq = record {
     each : ℕ
     each = 3 * factorial (suc m) / 2
 
-    fits : rank_verdict m ≡ Accepted
+    fits : rank_verdict m ≡ Ok tt
     fits = rank_taken m rank
 
-    size : {h : List ℕ} → E m q h → size_verdict m (length h) ≡ Accepted
+    size : {h : List ℕ} → E m q h → size_verdict m (length h) ≡ Ok tt
     size {h} a = size_taken m (length h) rank a.size
 
     takes : (x h : List ℕ) → Word m x → length x ≤ 4096 → E m q h → Taken (act_word_call m q x h).answer

@@ -12,10 +12,10 @@ use Rattle.lists.specs.Lists.{same, less}
 use Rattle.refusals.specs.Refusals.{refusal_number, ◌then◌, unless, verdict_report}
 use Rattle.refusals.specs.declared.Refusal.{Refusal}
 use Rattle.refusals.specs.declared.Refusal.TheVariants as R
-use Rattle.refusals.specs.declared.Verdict.{Verdict}
-use Rattle.refusals.specs.declared.Verdict.TheVariants.{Accepted, Refused}
 use Rattle.ranks.specs.Ranks.{size}
 use Rattle.element_calls.specs.Calls.{rank_verdict, size_verdict, first_bad_signed, signed_word_verdict}
+use Rattle.std.specs.Prelude.{Ok, Err}
+use Rattle.refusals.specs.Refusals.{Verdict}
 
 abbrev pub Early : Verdict → Type 0
 Early v = (verdict_report v).number < 15
@@ -25,8 +25,8 @@ early_unless false why h = omega arith
 early_unless true why h = h
 
 early_then : (a b : Verdict) → Early a → Early b → Early (a then b)
-early_then Accepted b h k = k
-early_then (Refused why) b h k = h
+early_then (Ok _) b h k = k
+early_then (Err why) b h k = h
 
 pub early : (m n : ℕ) (x : List ℤ) → Early (rank_verdict m then size_verdict m n then signed_word_verdict m x)
 unfolding rank_verdict size_verdict signed_word_verdict
@@ -52,6 +52,6 @@ early m n x = early_then (rank then sized) letters (early_then rank sized (early
     letters : Verdict
     letters = few then good
 
-pub later : {i : ℕ} (a b : Verdict) → Early a → (a then b) ≡ Refused (R.NoInverse i) → (a ≡ Accepted) × (b ≡ Refused (R.NoInverse i))
-later Accepted b h e = (refl, e)
-later (Refused why) b h e = absurd (omega (arith, ap (λ v. (verdict_report v).number) e))
+pub later : {i : ℕ} (a b : Verdict) → Early a → (a then b) ≡ Err (R.NoInverse i) → (a ≡ Ok tt) × (b ≡ Err (R.NoInverse i))
+later (Ok _) b h e = (refl, e)
+later (Err why) b h e = absurd (omega (arith, ap (λ v. (verdict_report v).number) e))

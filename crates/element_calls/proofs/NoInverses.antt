@@ -13,16 +13,16 @@ use Rattle.lists.proofs.Test.{LessView, lt, ge, less?, less_true}
 use Rattle.lists.proofs.First.{passed, first_holds, first_true}
 use Rattle.inverses.specs.Inverses.{has_inverse}
 use Rattle.inverses.proofs.Parity.{word_inverses, none_even}
-use Rattle.refusals.specs.Refusals.{◌then◌, unless, verdict_report}
+use Rattle.refusals.specs.Refusals.{◌then◌, unless, verdict_report, verdict_of}
 use Rattle.refusals.specs.declared.Refusal.TheVariants as R
-use Rattle.refusals.specs.declared.Verdict.{Verdict}
-use Rattle.refusals.specs.declared.Verdict.TheVariants.{Accepted, Refused}
 use Rattle.element_calls.specs.Calls.{rank_verdict, size_verdict, signed_word_verdict, first_below, inverse_verdict, act_signed_word_call}
 use Rattle.element_calls.specs.SignedCalls.{FirstBelow}
 use Rattle.element_calls.proofs.Earlier.{early, later}
 use Rattle.element_calls.proofs.InverseVerdicts.{some_below}
 use Rattle.element_calls.proofs.SignedVerdicts.{below_at}
 use Rattle.element_calls.proofs.Answers.{signed_verdict_lem}
+use Rattle.std.specs.Prelude.{Ok, Err}
+use Rattle.refusals.specs.Refusals.{Verdict}
 
 -- ---- the first letter below 0
 
@@ -49,12 +49,12 @@ module _ (x : List ℤ) where
 -- ---- check 15
 
 module _ (q : ℕ) (x : List ℤ) where
-  refused_by : {i : ℕ} → inverse_verdict q x ≡ Refused (R.NoInverse i) → (q % 2 ≡ 0) × FirstBelow x i
+  refused_by : {i : ℕ} → inverse_verdict q x ≡ Err (R.NoInverse i) → (q % 2 ≡ 0) × FirstBelow x i
   unfolding inverse_verdict
   refused_by {i} e = go (less (first_below x) (length x)) refl (has_inverse word_modulus q) refl e
     where
       go : (a : Bool) → less (first_below x) (length x) ≡ a → (b : Bool) → has_inverse word_modulus q ≡ b
-          → unless (a && not b) (R.NoInverse (first_below x)) ≡ Refused (R.NoInverse i) → (q % 2 ≡ 0) × FirstBelow x i
+          → unless (a && not b) (R.NoInverse (first_below x)) ≡ Err (R.NoInverse i) → (q % 2 ≡ 0) × FirstBelow x i
       go false f b g k = absurd (omega (arith, ap (λ v. (verdict_report v).number) k))
       go true f true g k = absurd (omega (arith, ap (λ v. (verdict_report v).number) k))
       go true f false g k =
@@ -62,8 +62,8 @@ module _ (q : ℕ) (x : List ℤ) where
           (none_even q g, rw (← same) (found x (less_true (first_below x) (length x) f)))
 
 pub no_inverse : (m q : ℕ) (x : List ℤ) (h : List ℕ) (i : ℕ)
-    → ((act_signed_word_call m q x h).answer.verdict ≡ Refused (R.NoInverse i))
-    ↔ (((rank_verdict m then size_verdict m (length h) then signed_word_verdict m x) ≡ Accepted) × (q % 2 ≡ 0) × FirstBelow x i)
+    → (verdict_of (act_signed_word_call m q x h).answer ≡ Err (R.NoInverse i))
+    ↔ (((rank_verdict m then size_verdict m (length h) then signed_word_verdict m x) ≡ Ok tt) × (q % 2 ≡ 0) × FirstBelow x i)
 no_inverse m q x h i = (
   λ e.
       let l = later three (inverse_verdict q x) (early m (length h) x) (sym (signed_verdict_lem m q x h) ∙ e) in

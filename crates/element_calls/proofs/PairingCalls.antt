@@ -20,12 +20,13 @@ use Rattle.element_calls.specs.PairingCalls.{PairingLawful, PairingCalls}
 use Rattle.element_calls.proofs.Verdicts.{rank_taken, size_taken}
 use Rattle.element_calls.proofs.Answers.{sum_lent, scale_lent, product_lent, pairing_verdict, pairing_value}
 use Rattle.element_calls.proofs.Demand3.{demand_3}
+use Rattle.refusals.specs.Refusals.{value_of}
 
 module _ (m q : ℕ) (h g : List ℕ) (rank : m ≤ 6) (left : length h ≡ factorial (suc m)) (right : length g ≡ factorial (suc m)) where
   pairing_given : Given (pairing_call m q h g)
   pairing_given = pairing_verdict m q h g ∙ rw (rank_taken m rank, size_taken m (length h) rank left, size_taken m (length g) rank right) refl
 
-  pub pairing_gives : (pairing_call m q h g).value ≡ pairing ℕ words q m h g
+  pub pairing_gives : value_of (pairing_call m q h g) ≡ pairing ℕ words q m h g
   unfolding modulus
   pairing_gives = pairing_value m q h g pairing_given
 
@@ -44,7 +45,7 @@ module _ (m q : ℕ) (rank : m ≤ 6) (hq : q < word_modulus) where
   given : (h g : List ℕ) → E m q h → E m q g → Given (pairing_call m q h g)
   given h g a b = pairing_given m q h g rank a.size b.size
 
-  gives : {h g : List ℕ} → E m q h → E m q g → (pairing_call m q h g).value ≡ pairing ℕ words q m h g
+  gives : {h g : List ℕ} → E m q h → E m q g → value_of (pairing_call m q h g) ≡ pairing ℕ words q m h g
   gives {h} {g} a b = pairing_gives m q h g rank a.size b.size
 
   sums : (h g result : List ℕ) → E m q h → E m q g → length result ≡ factorial (suc m) → (sum_call m h g result).lent ≡ plus ℕ words h g
@@ -56,7 +57,7 @@ module _ (m q : ℕ) (rank : m ≤ 6) (hq : q < word_modulus) where
   -- ---- the claim
 
   units : (h g result scratch : List ℕ) → E m q h → E m q g → length result ≡ factorial (suc m) → (m + 6) * factorial (suc m) ≤ length scratch
-      → (pairing_call m q h g).value ≡ coefficient ℕ words (product_call m q h g result scratch).lent.result (identity m)
+      → value_of (pairing_call m q h g) ≡ coefficient ℕ words (product_call m q h g result scratch).lent.result (identity m)
   unfolding modulus
   units h g result scratch a b c n = gives a b ∙ L.unit h g a b
       ∙ ap (λ x. coefficient ℕ words x (identity m)) (sym (product_lent m q h g result scratch (D.product_taken h g result scratch a b c n)))

@@ -7,10 +7,8 @@ use Prim.Native.Nat.{ℕ}
 use native.Mathlib.Omega.{arith}
 use lib.ListN.{length}
 use Rattle.lists.specs.Lists.{same, less}
-use Rattle.refusals.specs.Refusals.{◌then◌, accepted, answer_report, ended, Keeps}
+use Rattle.refusals.specs.Refusals.{◌then◌, accepted, answer_report, ended, Keeps, value_of}
 use Rattle.refusals.specs.declared.Refusal.TheVariants as R
-use Rattle.refusals.specs.declared.Verdict.{Verdict}
-use Rattle.refusals.specs.declared.Verdict.TheVariants.{Accepted, Refused}
 use Rattle.refusals.proofs.Verdicts.{Near, near_then, near_unless}
 use Rattle.refusals.proofs.Ended.{ended_keeps, refuses_verdict}
 use Rattle.ranks.specs.Ranks.{size, scratch_size}
@@ -19,6 +17,8 @@ use Rattle.element_calls.specs.Claims.{Refusals}
 use Rattle.element_calls.proofs.Verdicts.{word_near}
 use Rattle.element_calls.proofs.SignedVerdicts.{signed_near}
 use Rattle.element_calls.proofs.Answers.{pairing_checks, pairing_verdict, trace_checks}
+use Rattle.std.specs.Prelude.{Ok, Err}
+use Rattle.refusals.specs.Refusals.{Verdict}
 
 rank_near : (m : ℕ) → Near (rank_verdict m)
 unfolding rank_verdict
@@ -49,16 +49,16 @@ write_keeps : {A : Type 0} (v : Verdict) (old new : A) (n : ℕ) → Near v → 
 write_keeps v old new n h = ended_keeps answer_report v _ (accepted n) n old new (λ why. refl) refl h
 
 give_keeps : {A : Type 0} (v : Verdict) (x : ℕ) (old new : A) → Near v → Keeps (valued_report (give v x old new).answer) old (give v x old new).lent
-give_keeps v x old new h = ended_keeps valued_report v _ (valued Accepted x) 0 old new (λ why. refl) refl h
+give_keeps v x old new h = ended_keeps valued_report v _ (valued (Ok tt) x) 0 old new (λ why. refl) refl h
 
-valued_zero : (v : Verdict) (x : ℕ) → (valued_report (valued v x)).number ≢ 0 → (valued v x).value ≡ 0
-valued_zero Accepted x d = absurd (d refl)
-valued_zero (Refused why) x d = refl
+valued_zero : (v : Verdict) (x : ℕ) → (valued_report (valued v x)).number ≢ 0 → value_of (valued v x) ≡ 0
+valued_zero (Ok _) x d = absurd (d refl)
+valued_zero (Err why) x d = refl
 
-give_zero : {A : Type 0} (v : Verdict) (x : ℕ) (old new : A) → (valued_report (give v x old new).answer).number ≢ 0 → (give v x old new).answer.value ≡ 0
+give_zero : {A : Type 0} (v : Verdict) (x : ℕ) (old new : A) → (valued_report (give v x old new).answer).number ≢ 0 → value_of (give v x old new).answer ≡ 0
 unfolding ended
-give_zero Accepted x old new d = absurd (d refl)
-give_zero (Refused why) x old new d = refl
+give_zero (Ok _) x old new d = absurd (d refl)
+give_zero (Err why) x old new d = refl
 
 pub refusals : Refusals
 unfolding sum_call scale_call act_word_call act_signed_word_call product_call pairing_call trace_call

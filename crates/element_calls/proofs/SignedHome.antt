@@ -12,9 +12,7 @@ use Rattle.ring.specs.Modular.{word_modulus, words}
 use Rattle.inverses.specs.Inverses.{IsInverse, has_inverse}
 use Rattle.inverses.proofs.Search.{inverses}
 use Rattle.inverses.proofs.Parity.{word_inverses}
-use Rattle.refusals.specs.Refusals.{reported}
-use Rattle.refusals.specs.declared.Verdict.{Verdict}
-use Rattle.refusals.specs.declared.Verdict.TheVariants.{Accepted, Refused}
+use Rattle.refusals.specs.Refusals.{reported, verdict_of, count_of}
 use Rattle.refusals.proofs.Verdicts.{number_within}
 use Rattle.algebra.specs.Element.{Element}
 use Rattle.algebra.proofs.Modular.{word_closed}
@@ -32,6 +30,8 @@ use Rattle.element_calls.proofs.SignedVerdicts.{signed_taken}
 use Rattle.element_calls.proofs.Refusals.{refusals}
 use Rattle.element_calls.proofs.Answers.{signed_verdict_lem, signed_lent}
 use Rattle.element_calls.proofs.Accepts.{accepts}
+use Rattle.std.specs.Prelude.{Ok, Err}
+use Rattle.refusals.specs.Refusals.{Verdict}
 
 module _ (m q : ℕ) where
   abbrev pub r : ℕ
@@ -73,16 +73,16 @@ module _ (m q : ℕ) where
 
     pub closes : (x : List ℤ) (h : List ℕ) → E m q h → E m q (act_signed_word_call m q x h).lent
     unfolding modulus
-    closes x h a = go (act_signed_word_call m q x h).answer.verdict refl
+    closes x h a = go (verdict_of (act_signed_word_call m q x h).answer) refl
       where
         new : NoneBelow x ⊎ (has_inverse word_modulus q ≡ true) → Element ok m (signed_act ℕ words q r q' r' m x h)
         new (inl w) = subst (Element ok m) (sym (plain_word ℕ words q r m q' r' x h w)) ((word_closed m q hq).act (map nat_abs x) h a)
         new (inr e) = (closed_by e).signed_act_lem x h a
 
-        go : (v : Verdict) → (act_signed_word_call m q x h).answer.verdict ≡ v → E m q (act_signed_word_call m q x h).lent
-        go Accepted e = subst (E m q) (sym (writes x h e)) (new (accepts.act_signed_word_lem m q x h e).4)
-        go (Refused why) e = subst (E m q) (sym ((refusals.act_signed_word_lem m q x h).lent (λ z.
-            absurd (omega (arith, (number_within why).0, ap (λ v. (reported v (act_signed_word_call m q x h).answer.count).number) (sym e) ∙ z))))) a
+        go : (v : Verdict) → verdict_of (act_signed_word_call m q x h).answer ≡ v → E m q (act_signed_word_call m q x h).lent
+        go (Ok _) e = subst (E m q) (sym (writes x h e)) (new (accepts.act_signed_word_lem m q x h e).4)
+        go (Err why) e = subst (E m q) (sym ((refusals.act_signed_word_lem m q x h).lent (λ z.
+            absurd (omega (arith, (number_within why).0, ap (λ v. (reported v (count_of (act_signed_word_call m q x h).answer)).number) (sym e) ∙ z))))) a
 
     -- ---- home
 

@@ -9,7 +9,7 @@ use native.Mathlib.Omega.{arith}
 use lib.ListN.{length, get_or}
 use lib.IntN.{ℤ, pos, nat_abs}
 use Rattle.ring.specs.Modular.{word_modulus}
-use Rattle.lists.specs.Lists.{same, less, first, bit}
+use Rattle.lists.specs.Lists.{same, less, bit}
 use Rattle.lists.specs.Numbers.{factorial}
 use Rattle.lists.proofs.Test.{less_true, less_false}
 use Rattle.lists.proofs.First.{passed, first_past}
@@ -17,7 +17,6 @@ use Rattle.lists.proofs.All.{all_get_or, all_index}
 use Rattle.inverses.specs.Inverses.{has_inverse}
 use Rattle.refusals.specs.Refusals.{◌then◌}
 use Rattle.refusals.specs.declared.Refusal.TheVariants as R
-use Rattle.refusals.specs.declared.Verdict.TheVariants.{Accepted}
 use Rattle.refusals.proofs.Verdicts.{accepts_first, accepts_next, accepts_unless, Near, near_then, near_unless}
 use Rattle.signed_words.specs.Words.{SignedLetter, SignedWord, is_below}
 use Rattle.element_calls.specs.Calls.{rank_verdict, size_verdict, first_bad_signed, signed_word_verdict, first_below, inverse_verdict, signed_verdict}
@@ -25,6 +24,7 @@ use Rattle.element_calls.specs.Claims.{NoneBelow}
 use Rattle.element_calls.proofs.WordChecks.{letter_good, good_letter, searched_few, searched_good, searched_taken, searched_near}
 use Rattle.element_calls.proofs.Verdicts.{rank_taken, size_taken, one_accepted}
 use Rattle.element_calls.proofs.InverseVerdicts.{has_one, none_below}
+use Rattle.std.specs.Prelude.{Ok}
 
 -- ---- the letters
 
@@ -33,14 +33,14 @@ abbrev bad_signed : ℕ → List ℤ → ℕ → Bool
 bad_signed m x i = same (nat_abs (get_or x i (pos 0))) 0 || less m (nat_abs (get_or x i (pos 0)))
 
 module _ (m : ℕ) (x : List ℤ) where
-  pub letters_accepted : signed_word_verdict m x ≡ Accepted → SignedWord m x × (length x ≤ 4096)
+  pub letters_accepted : signed_word_verdict m x ≡ Ok tt → SignedWord m x × (length x ≤ 4096)
   unfolding signed_word_verdict first_bad_signed
   letters_accepted e = (
     all_index (SignedLetter m) x (pos 0) (λ i h. letter_good m (nat_abs (get_or x i (pos 0))) (searched_good (bad_signed m x) (length x) e i h)),
     searched_few (bad_signed m x) (length x) e,
   )
 
-  pub letters_taken : SignedWord m x → length x ≤ 4096 → signed_word_verdict m x ≡ Accepted
+  pub letters_taken : SignedWord m x → length x ≤ 4096 → signed_word_verdict m x ≡ Ok tt
   unfolding signed_word_verdict first_bad_signed
   letters_taken w h = searched_taken (bad_signed m x) (length x) h
       (λ i k. good_letter m (nat_abs (get_or x i (pos 0))) (all_get_or (SignedLetter m) x i (pos 0) k w))
@@ -65,7 +65,7 @@ module _ (x : List ℤ) where
   plain_past w = first_past (below_at x) 0 (length x) (λ i k l. all_get_or (λ z. is_below z ≡ false) x i (pos 0) (omega arith) w) ∙ omega arith
 
 module _ (q : ℕ) (x : List ℤ) where
-  inverse_accepted : inverse_verdict q x ≡ Accepted → NoneBelow x ⊎ (has_inverse word_modulus q ≡ true)
+  inverse_accepted : inverse_verdict q x ≡ Ok tt → NoneBelow x ⊎ (has_inverse word_modulus q ≡ true)
   unfolding inverse_verdict
   inverse_accepted e = go (less (first_below x) (length x)) refl (has_inverse word_modulus q) refl
       (accepts_unless (less (first_below x) (length x) && not (has_inverse word_modulus q)) (R.NoInverse (first_below x)) e)
@@ -76,7 +76,7 @@ module _ (q : ℕ) (x : List ℤ) where
       go true f true g k = inr g
       go true f false g k = absurd (omega (arith, ap bit (rw (f, g) at k)))
 
-  pub inverse_taken : NoneBelow x ⊎ (has_inverse word_modulus q ≡ true) → inverse_verdict q x ≡ Accepted
+  pub inverse_taken : NoneBelow x ⊎ (has_inverse word_modulus q ≡ true) → inverse_verdict q x ≡ Ok tt
   inverse_taken (inl w) = sym (none_below q x {i = first_below x} refl (omega (arith, plain_past x w)))
   inverse_taken (inr e) = sym (has_one q x e)
 
@@ -97,7 +97,7 @@ module _ (q : ℕ) (x : List ℤ) where
 -- ---- all checks of the call
 
 module _ (m n q : ℕ) (x : List ℤ) where
-  pub signed_accepted : signed_verdict m n q x ≡ Accepted
+  pub signed_accepted : signed_verdict m n q x ≡ Ok tt
       → (m ≤ 6) × (n ≡ factorial (suc m)) × SignedWord m x × (length x ≤ 4096) × (NoneBelow x ⊎ (has_inverse word_modulus q ≡ true))
   signed_accepted e =
       let one = rank_verdict m then size_verdict m n in
@@ -108,7 +108,7 @@ module _ (m n q : ℕ) (x : List ℤ) where
       (a.0, a.1, b.0, b.1, inverse_accepted q x (accepts_next two (inverse_verdict q x) e))
 
   pub signed_taken : m ≤ 6 → n ≡ factorial (suc m) → SignedWord m x → length x ≤ 4096 → NoneBelow x ⊎ (has_inverse word_modulus q ≡ true)
-      → signed_verdict m n q x ≡ Accepted
+      → signed_verdict m n q x ≡ Ok tt
   signed_taken low e w h c = rw (rank_taken m low, size_taken m n low e, letters_taken m x w h) (inverse_taken q x c)
 
   pub signed_near : Near (rank_verdict m then size_verdict m n) → Near (signed_verdict m n q x)

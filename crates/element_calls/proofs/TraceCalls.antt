@@ -23,6 +23,7 @@ use Rattle.element_calls.specs.TraceCalls.{Room, times, TraceLawful, MarkovLawfu
 use Rattle.element_calls.proofs.Verdicts.{rank_taken, size_taken, scratch_taken}
 use Rattle.element_calls.proofs.Answers.{sum_lent, scale_lent, product_lent, trace_verdict, trace_value, trace_cleared}
 use Rattle.element_calls.proofs.Demand3.{demand_3}
+use Rattle.refusals.specs.Refusals.{value_of}
 
 -- ---- what the calls give and write
 
@@ -33,7 +34,7 @@ module _ (m q z : ℕ) (h scratch : List ℕ) (rank : m ≤ 6) (size : length h 
       trace_verdict m q z h scratch
       ∙ rw (rank_taken m rank, size_taken m (length h) rank size, scratch_taken m (length scratch) rank room) refl
 
-  pub trace_gives : (trace_call m q z h scratch).answer.value ≡ trace ℕ words q (parameters_of q).r z m h
+  pub trace_gives : value_of (trace_call m q z h scratch).answer ≡ trace ℕ words q (parameters_of q).r z m h
   unfolding modulus
   trace_gives = trace_value m q z h scratch trace_given
 
@@ -57,7 +58,7 @@ module _ (m q z : ℕ) (hq : q < word_modulus) (hz : z < word_modulus) where
 
   module _ (rank : m ≤ 6) where
     gives : {h : List ℕ} (scratch : List ℕ) → E m q h → Room m scratch
-        → (trace_call m q z h scratch).answer.value ≡ trace ℕ words q (parameters_of q).r z m h
+        → value_of (trace_call m q z h scratch).answer ≡ trace ℕ words q (parameters_of q).r z m h
     gives {h} scratch a n = trace_gives m q z h scratch rank a.size n
 
     trace_lawful : TraceLawful m q z
@@ -104,7 +105,7 @@ module _ (m q z : ℕ) (hq : q < word_modulus) (hz : z < word_modulus) where
     }
       where
         gives' : {h : List ℕ} (scratch : List ℕ) → E (suc m) q h → Room (suc m) scratch
-            → (trace_call (suc m) q z h scratch).answer.value ≡ trace ℕ words q (parameters_of q).r z (suc m) h
+            → value_of (trace_call (suc m) q z h scratch).answer ≡ trace ℕ words q (parameters_of q).r z (suc m) h
         gives' {h} scratch a n = trace_gives (suc m) q z h scratch rank a.size n
 
 pub trace_calls : TraceCalls

@@ -10,10 +10,10 @@ use Rattle.lists.proofs.Test.{same_no, less_no, same_false, less_true, less_fals
 use Rattle.lists.proofs.First.{passed, first_past}
 use Rattle.refusals.specs.Refusals.{◌then◌, unless}
 use Rattle.refusals.specs.declared.Refusal.TheVariants as R
-use Rattle.refusals.specs.declared.Verdict.{Verdict}
-use Rattle.refusals.specs.declared.Verdict.TheVariants.{Accepted}
 use Rattle.refusals.proofs.Verdicts.{accepts_first, accepts_next, accepts_unless, Near, near_then, near_unless}
 use Rattle.perms.specs.Permutation.{Letter}
+use Rattle.std.specs.Prelude.{Ok}
+use Rattle.refusals.specs.Refusals.{Verdict}
 
 -- ---- one letter
 
@@ -41,15 +41,15 @@ module _ (bad : ℕ → Bool) (n : ℕ) where
   abbrev pub searched : Verdict
   searched = size then rest
 
-  pub searched_few : searched ≡ Accepted → n ≤ 4096
+  pub searched_few : searched ≡ Ok tt → n ≤ 4096
   searched_few e = less_false 4096 n (accepts_unless (less 4096 n) R.Word (accepts_first size rest e))
 
-  pub searched_good : searched ≡ Accepted → (i : ℕ) → i < n → bad i ≡ false
+  pub searched_good : searched ≡ Ok tt → (i : ℕ) → i < n → bad i ≡ false
   searched_good e i h =
       let all = less_false at n (accepts_unless (less at n) (R.Letter at) (accepts_next size rest e)) in
       passed bad 0 n i (omega arith) (omega (arith, all))
 
-  pub searched_taken : n ≤ 4096 → ((i : ℕ) → i < n → bad i ≡ false) → searched ≡ Accepted
+  pub searched_taken : n ≤ 4096 → ((i : ℕ) → i < n → bad i ≡ false) → searched ≡ Ok tt
   searched_taken h g = rw (less_no h, less_no {x = at} {a = n} none) refl
     where
       none : n ≤ first bad 0 n

@@ -11,19 +11,18 @@ use Rattle.ring.specs.Modular.{word_modulus}
 use Rattle.lists.specs.Lists.{All}
 use Rattle.lists.specs.Numbers.{factorial}
 use Rattle.inverses.specs.Inverses.{has_inverse}
-use Rattle.refusals.specs.Refusals.{answer_report, Refuses, Keeps}
-use Rattle.refusals.specs.declared.Verdict.TheVariants.{Accepted}
-use Rattle.refusals.specs.declared.Answer.{Answer}
+use Rattle.refusals.specs.Refusals.{Answered, verdict_of, value_of, answer_report, Refuses, Keeps}
+use Rattle.refusals.specs.declared.Refusal.{Refusal}
 use Rattle.perms.specs.Permutation.{Word}
 use Rattle.signed_words.specs.Words.{SignedWord, is_below}
-use Rattle.element_calls.specs.declared.Valued.{Valued}
 use Rattle.element_calls.specs.Calls.{valued_report, sum_call, scale_call, act_word_call, act_signed_word_call, product_call, pairing_call, trace_call}
+use Rattle.std.specs.Prelude.{Result, Ok}
 
-abbrev pub Taken : Answer → Type 0
-Taken a = a.verdict ≡ Accepted
+abbrev pub Taken : Answered → Type 0
+Taken a = verdict_of a ≡ Ok tt
 
-abbrev pub Given : Valued → Type 0
-Given a = a.verdict ≡ Accepted
+abbrev pub Given : Result ℕ Refusal → Type 0
+Given a = verdict_of a ≡ Ok tt
 
 abbrev pub NoneBelow : List ℤ → Type 0
 NoneBelow x = All (λ z. is_below z ≡ false) x
@@ -38,10 +37,10 @@ pub record Refusals : Type 0 where
       → Keeps (answer_report (product_call m q h g result scratch).answer) (record { result = result; scratch = scratch })
       (product_call m q h g result scratch).lent
   pub pairing : (m q : ℕ) (h g : List ℕ) → Refuses (valued_report (pairing_call m q h g))
-  pub pairing_zero : (m q : ℕ) (h g : List ℕ) → (valued_report (pairing_call m q h g)).number ≢ 0 → (pairing_call m q h g).value ≡ 0
+  pub pairing_zero : (m q : ℕ) (h g : List ℕ) → (valued_report (pairing_call m q h g)).number ≢ 0 → value_of (pairing_call m q h g) ≡ 0
   pub trace : (m q z : ℕ) (h scratch : List ℕ) → Keeps (valued_report (trace_call m q z h scratch).answer) scratch (trace_call m q z h scratch).lent
   pub trace_zero : (m q z : ℕ) (h scratch : List ℕ) → (valued_report (trace_call m q z h scratch).answer).number ≢ 0
-      → (trace_call m q z h scratch).answer.value ≡ 0
+      → value_of (trace_call m q z h scratch).answer ≡ 0
 
 pub record Accepts : Type 0 where
   pub sum : (m : ℕ) (h g result : List ℕ) → Taken (sum_call m h g result).answer

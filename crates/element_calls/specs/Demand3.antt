@@ -16,6 +16,7 @@ use Rattle.algebra.specs.Laws.{Calls, Closed, Hecke}
 use Rattle.element_calls.specs.Coefficients.{ring, Coefficient, parameters_of}
 use Rattle.element_calls.specs.Calls.{sum_call, scale_call, act_word_call, product_call}
 use Rattle.element_calls.specs.Claims.{Taken}
+use Rattle.refusals.specs.Refusals.{count_of}
 
 abbrev pub E : ℕ → ℕ → List ℕ → Type 0
 E m q h = Element (Coefficient (parameters_of q)) m h
@@ -40,12 +41,12 @@ pub record Lawful (m q : ℕ) : Type 0 where
   pub closed : Closed ℕ (ring (parameters_of q)) (Coefficient (parameters_of q)) m calls
   pub hecke : Hecke ℕ (ring (parameters_of q)) q (parameters_of q).r (Coefficient (parameters_of q)) m calls
   -- a sum or scaling counts M; a shortest word of w is taken and counts 3M/2 for each of its ℓ(w) letters; a product counts C(m, m), which is below 4M²
-  pub sum_count : (h g result : List ℕ) → Taken (sum_call m h g result).answer → (sum_call m h g result).answer.count ≡ factorial (suc m)
-  pub scale_count : (c : ℕ) (h result : List ℕ) → Taken (scale_call m c h result).answer → (scale_call m c h result).answer.count ≡ factorial (suc m)
+  pub sum_count : (h g result : List ℕ) → Taken (sum_call m h g result).answer → count_of (sum_call m h g result).answer ≡ factorial (suc m)
+  pub scale_count : (c : ℕ) (h result : List ℕ) → Taken (scale_call m c h result).answer → count_of (scale_call m c h result).answer ≡ factorial (suc m)
   pub word_taken : (w x h : List ℕ) → Shortest m x w → E m q h → Taken (act_word_call m q x h).answer
-  pub word_count : (w x h : List ℕ) → Shortest m x w → E m q h → (act_word_call m q x h).answer.count ≡ 3 * factorial (suc m) / 2 * len w
+  pub word_count : (w x h : List ℕ) → Shortest m x w → E m q h → count_of (act_word_call m q x h).answer ≡ 3 * factorial (suc m) / 2 * len w
   pub product_count_lem : (h g result scratch : List ℕ) → E m q h → E m q g → Taken (product_call m q h g result scratch).answer
-      → (product_call m q h g result scratch).answer.count ≡ C m m
+      → count_of (product_call m q h g result scratch).answer ≡ C m m
   pub bound : C m m < 4 * (factorial (suc m) * factorial (suc m))
 
 abbrev pub Demand3 : Type 0

@@ -13,13 +13,14 @@ use Rattle.element_calls.specs.Coefficients.{ring, Coefficient, parameters_of}
 use Rattle.element_calls.specs.Calls.{sum_call, scale_call, product_call, pairing_call}
 use Rattle.element_calls.specs.Claims.{Given}
 use Rattle.element_calls.specs.Demand3.{E}
+use Rattle.refusals.specs.Refusals.{value_of}
 
 module _ (m q : ℕ) where
   abbrev o : Ops ℕ
   o = ring (parameters_of q)
 
   abbrev paired : List ℕ → List ℕ → ℕ
-  paired h g = (pairing_call m q h g).value
+  paired h g = value_of (pairing_call m q h g)
 
   pub record PairingLawful : Type 0 where
     pub taken : (h g : List ℕ) → E m q h → E m q g → Given (pairing_call m q h g)

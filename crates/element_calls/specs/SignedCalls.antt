@@ -12,9 +12,8 @@ use Rattle.std.specs.Prelude.{◌≡◌, ◌⊎◌, ◌↔◌, true, false, List
 use Rattle.ring.specs.Modular.{word_modulus}
 use Rattle.lists.specs.Numbers.{factorial}
 use Rattle.inverses.specs.Inverses.{IsInverse}
-use Rattle.refusals.specs.Refusals.{◌then◌}
+use Rattle.refusals.specs.Refusals.{◌then◌, verdict_of, count_of}
 use Rattle.refusals.specs.declared.Refusal.TheVariants.{NoInverse}
-use Rattle.refusals.specs.declared.Verdict.TheVariants.{Accepted, Refused}
 use Rattle.perms.specs.Permutation.{Letter}
 use Rattle.algebra.specs.Element.{unit, T}
 use Rattle.algebra.specs.Nested.{operations, Counted, nested_act}
@@ -25,6 +24,7 @@ use Rattle.element_calls.specs.Coefficients.{ring, Coefficient, parameters_of, i
 use Rattle.element_calls.specs.Calls.{rank_verdict, size_verdict, signed_word_verdict, act_word_call, act_signed_word_call, product_call}
 use Rattle.element_calls.specs.Claims.{Taken, NoneBelow}
 use Rattle.element_calls.specs.Demand3.{E}
+use Rattle.std.specs.Prelude.{Ok, Err}
 
 pub record Home (m q : ℕ) (x y : List ℤ) (h : List ℕ) : Type 0 where
   pub first_taken : Taken (act_signed_word_call m q x h).answer
@@ -68,7 +68,7 @@ module _ (m q : ℕ) where
     pub right : q % 2 ≡ 1 → (i : ℕ) → Letter m i → Makes m q (t i) (t' i) (unit ℕ (ring (parameters_of q)) m)
     -- a word counts 3M/2 for each letter, which is what the second definition of a letter takes, either way; it has the call's value
     pub count : (x : List ℤ) (h : List ℕ) → Taken (act_signed_word_call m q x h).answer
-        → (act_signed_word_call m q x h).answer.count ≡ length x * (3 * factorial (suc m) / 2)
+        → count_of (act_signed_word_call m q x h).answer ≡ length x * (3 * factorial (suc m) / 2)
     pub letter_count : (z : ℤ) (h : List ℕ) → SignedLetter m z → E m q h → 2 * operations (counted m q z h).count ≡ 3 * factorial (suc m)
     pub letter_value : (z : ℤ) (h : List ℕ) → SignedLetter m z → E m q h → (q % 2 ≡ 1) ⊎ (is_below z ≡ false)
         → (counted m q z h).value ≡ (act_signed_word_call m q (z ∷ []) h).lent
@@ -79,5 +79,5 @@ pub record SignedCalls : Type 0 where
   pub plain : (m q : ℕ) (x h : List ℕ) → act_signed_word_call m q (map pos x) h ≡ act_word_call m q x h
   -- 15 is answered for the letter i exactly where no earlier check refuses, q is even, and i is the first letter below 0
   pub no_inverse : (m q : ℕ) (x : List ℤ) (h : List ℕ) (i : ℕ)
-      → ((act_signed_word_call m q x h).answer.verdict ≡ Refused (NoInverse i))
-      ↔ (((rank_verdict m then size_verdict m (length h) then signed_word_verdict m x) ≡ Accepted) × (q % 2 ≡ 0) × FirstBelow x i)
+      → (verdict_of (act_signed_word_call m q x h).answer ≡ Err (NoInverse i))
+      ↔ (((rank_verdict m then size_verdict m (length h) then signed_word_verdict m x) ≡ Ok tt) × (q % 2 ≡ 0) × FirstBelow x i)

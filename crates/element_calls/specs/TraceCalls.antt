@@ -18,6 +18,7 @@ use Rattle.element_calls.specs.Coefficients.{ring, Coefficient, parameters_of}
 use Rattle.element_calls.specs.Calls.{sum_call, scale_call, product_call, trace_call}
 use Rattle.element_calls.specs.Claims.{Given}
 use Rattle.element_calls.specs.Demand3.{E}
+use Rattle.refusals.specs.Refusals.{value_of}
 
 abbrev pub Room : ℕ → List ℕ → Type 0
 Room m scratch = (m + 6) * factorial (suc m) ≤ length scratch
@@ -30,11 +31,11 @@ module _ (m q z : ℕ) where
   o = ring (parameters_of q)
 
   abbrev tr : List ℕ → List ℕ → ℕ
-  tr h scratch = (trace_call m q z h scratch).answer.value
+  tr h scratch = value_of (trace_call m q z h scratch).answer
 
   -- at rank m + 1
   abbrev tr' : List ℕ → List ℕ → ℕ
-  tr' h scratch = (trace_call (suc m) q z h scratch).answer.value
+  tr' h scratch = value_of (trace_call (suc m) q z h scratch).answer
 
   pub record TraceLawful : Type 0 where
     pub taken : (h scratch : List ℕ) → E m q h → Room m scratch → Given (trace_call m q z h scratch).answer

@@ -3,15 +3,6 @@
 
 #![tactic(auto)]
 
-use refusals::Verdict;
-
-// The answer of a call that gives one word and counts no ring operation: the word is 0 where the call is refused.
-#[derive(Clone, Copy)]
-pub struct Valued {
-    pub verdict: Verdict,
-    pub value: u64,
-}
-
 // The parameters of the algebra: q, and r = q - 1.
 #[derive(Clone, Copy)]
 pub struct Parameters {

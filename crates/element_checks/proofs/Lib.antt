@@ -1,5 +1,5 @@
 -- letters
-pub mod LetterTests
-pub mod SignedBytes
+pub mod Positions
+mod WordVerdicts
 -- words of signed letters
 pub mod AskedParameters

@@ -1,6 +1,6 @@
 -- The call of a product that passes its checks: the product by the definition, its count, and zeros in the scratch. Rests on ranks' Sizes,
 -- element_calls' Verdicts and Calls, nested's Fits, and algebra's Orders and Modular.
-use mathlib.Core.Path.{◌≡◌, sym, ap, ◌∙◌}
+use mathlib.Core.Path.{◌≡◌, refl, sym, ap, ◌∙◌}
 use mathlib.Core.List.{List, ◌++◌}
 use Prim.Native.Nat.{ℕ, suc, ◌-◌, ◌^◌, ◌≤◌, ◌<◌}
 use native.Mathlib.Nat.{sub-zero}
@@ -9,8 +9,6 @@ use lib.ListN.{length, take, drop, replicate}
 use lib.Seq.{length-take-le, take_at, drop_at}
 use Rattle.lists.specs.Numbers.{factorial}
 use Rattle.refusals.specs.Refusals.{◌then◌, accepted}
-use Rattle.refusals.specs.declared.Verdict.TheVariants.{Accepted}
-use Rattle.refusals.specs.declared.Answer.{Answer}
 use Rattle.algebra.specs.Element.{Element}
 use Rattle.algebra.specs.Nested.{operations, falling, nested}
 use Rattle.algebra.specs.Cost.{C}
@@ -27,13 +25,19 @@ use Rattle.element_calls.proofs.Calls.{write_done, product_counted}
 use Rattle.nested.specs.Steps.{multiplied, TimesPre}
 use Rattle.nested.specs.InPlace.{product_in}
 use Rattle.nested.proofs.Fits.{product_fit}
+use Rattle.std.specs.Prelude.{Ok}
 
 -- the checks accept, and n words of scratch are lent
 pub record Checked (m n : ℕ) (h g result scratch : List ℕ) : Type 0 where
   pub verdict : (
       rank_verdict m then size_verdict m (length h) then size_verdict m (length g) then size_verdict m (length result) then scratch_verdict m (length scratch))
-      ≡ Accepted
+      ≡ Ok tt
   pub need : n ≡ scratch_size m
+
+-- one check after another
+pub checked : {m n : ℕ} {h g result scratch : List ℕ} → Ok tt ≡ rank_verdict m → Ok tt ≡ size_verdict m (length h) → Ok tt ≡ size_verdict m (length g)
+    → Ok tt ≡ size_verdict m (length result) → Ok tt ≡ scratch_verdict m (length scratch) → n ≡ scratch_size m → Checked m n h g result scratch
+checked a b c d e need = record { verdict = rw (← a, ← b, ← c, ← d, ← e) refl; need = need }
 
 module _ {m n : ℕ} {h g result scratch : List ℕ} (c : Checked m n h g result scratch) where
   pub sizes : (m ≤ 6) × (length h ≡ factorial (suc m)) × (length g ≡ factorial (suc m)) × (length result ≡ factorial (suc m)) × (needed m ≤ length scratch)
@@ -73,13 +77,13 @@ module _ {m : ℕ} {h g : List ℕ} (eh : Element (λ n. n < 2 ^ 64) m h) (eg : 
   unfolding modulus
   counted = product_counted p₀ eh eg
 
-  pub product_done : {p : Parameters} {n k : ℕ} {result y u : List ℕ} {a : Answer} (scratch v : List ℕ) → Checked m n h g result scratch → q < 2 ^ 64
+  pub product_done : {p : Parameters} {n k : ℕ} {result y u : List ℕ} (scratch v : List ℕ) → Checked m n h g result scratch → q < 2 ^ 64
       → p ≡ p₀ → y ≡ product_in p m (length (take (n - 0) scratch)) result h g → length v ≡ length (take (n - 0) scratch)
-      → u ≡ replicate (length (take (n - 0) (v ++ drop (n - 0) scratch))) 0 → k ≡ product_count m → a ≡ accepted k
-      → product_call m q h g result scratch ≡ record { answer = a; lent = record { result = y; scratch = u ++ drop (n - 0) (v ++ drop (n - 0) scratch) } }
+      → u ≡ replicate (length (take (n - 0) (v ++ drop (n - 0) scratch))) 0 → k ≡ product_count m
+      → product_call m q h g result scratch ≡ record { answer = accepted k; lent = record { result = y; scratch = u ++ drop (n - 0) (v ++ drop (n - 0) scratch) } }
   unfolding product_call
-  product_done {n = n} {u = u} scratch v c hq ep ey lv eu ek ea =
+  product_done {n = n} {u = u} scratch v c hq ep ey lv eu ek =
       let value = ey ∙ product_fit _ (times_pre c) ∙ ap (λ (p : Parameters). multiplied p m m h g) ep ∙ product_value hq in
       let zeros = cleared n scratch v u (enough c) lv eu ∙ ap (λ (n : ℕ). replicate n 0 ++ drop n scratch) (need_is c) in
       let count = ek ∙ product_count_is m (sizes c).0 ∙ sym counted in
-      write_done _ _ _ _ c.verdict (λ i. record { result = value i; scratch = zeros i }) count ea
+      write_done _ _ _ _ c.verdict (λ i. record { result = value i; scratch = zeros i }) count

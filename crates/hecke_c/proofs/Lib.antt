@@ -1,2 +1,2 @@
-mod Ends
+pub mod Ends
 pub mod Words

@@ -1,5 +1,6 @@
 -- Every returned word tells the number and the place of what is refused, since no place is above 4,096. Rests on returned's Told, the records `Refusals`
 -- of perm_calls and element_calls, sheet's Table and runner's Runs.
+use Rattle.refusals.specs.Refusals.{verdict_of}
 use Rattle.perm_calls.specs.Calls as P
 use Rattle.perm_calls.proofs.Refusals as perms
 use Rattle.element_calls.specs.Calls as E
@@ -8,13 +9,10 @@ use Rattle.sheet.specs.Check.{check_sheet}
 use Rattle.sheet.proofs.Table.{exactly}
 use Rattle.runner.specs.Run.{run_call}
 use Rattle.runner.proofs.Runs.{runs}
-use Rattle.returned.specs.Returned.{returns}
 use Rattle.returned.proofs.Told.{verdict_tells, answer_tells, counted_tells, generators_tells}
-use Rattle.hecke_c.specs.Calls.{verdict_call, counted_call, answer_call, valued_call, tower_length, tower_descents, pairing, sheet_check}
 use Rattle.hecke_c.specs.Words.{Words}
 
 pub words : Words
-unfolding verdict_call counted_call answer_call valued_call tower_length tower_descents pairing sheet_check returns
 words = record {
   tower_of_images_lem = λ w tower. verdict_tells (P.tower_of_call w tower).answer ((perms.refusals).tower_of_lem w tower).refuses;
   images_of_tower_lem = λ t images. verdict_tells (P.images_of_call t images).answer ((perms.refusals).images_of_lem t images).refuses;
@@ -29,8 +27,8 @@ words = record {
   act_signed_word_lem = λ m q x h answer. answer_tells (E.act_signed_word_call m q x h).answer ((elements.refusals).act_signed_word_lem m q x h).refuses;
   product = λ m q h g result scratch answer.
       answer_tells (E.product_call m q h g result scratch).answer ((elements.refusals).product m q h g result scratch).refuses;
-  pairing = λ m q h g answer. verdict_tells (E.pairing_call m q h g).verdict ((elements.refusals).pairing m q h g);
-  trace = λ m q z h scratch answer. verdict_tells (E.trace_call m q z h scratch).answer.verdict ((elements.refusals).trace m q z h scratch).refuses;
+  pairing = λ m q h g answer. verdict_tells (verdict_of (E.pairing_call m q h g)) ((elements.refusals).pairing m q h g);
+  trace = λ m q z h scratch answer. verdict_tells (verdict_of (E.trace_call m q z h scratch).answer) ((elements.refusals).trace m q z h scratch).refuses;
   sheet_check_lem = λ s. verdict_tells (check_sheet s) (exactly s).report;
   run_sheet_lem = λ s registers answer. answer_tells (run_call s registers).answer ((runs s).lent registers).refuses;
 }

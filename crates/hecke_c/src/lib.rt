@@ -3,6 +3,7 @@
 // A call is that of image_walk, towers, tower_words, linear, word_actions, hecke, pairings, traces, sheet or runner with the same
 // refusals. It returns 0, or the refusal's number plus 256 times its place; then every lent slice is as it was. What a call
 // counts or answers goes to the front of a lent answer, as far as it has room. include/hecke.h has the declarations.
+// Each has a function of its own, since C knows it by its name and its types.
 
 #![tactic(auto)]
 
@@ -10,14 +11,15 @@ ghost use Rattle.std.specs.Prelude.{◌≡◌};
 ghost use Rattle.ranks.specs.Ranks.{size, scratch_size};
 ghost use Rattle.hecke_c.specs.Calls.{tower_of_images, images_of_tower, tower_inverse, tower_product, tower_length, tower_word, tower_descents, sum, scale, act_word, act_signed_word, product, pairing, trace, sheet_check, run_sheet};
 
+use returned::{returned, word};
+
 // The tower of an image list.
 // Example: the images 2 3 1 give the tower 0 2; it returns 0.
 #[unsafe(no_mangle)]
 pub extern "C" fn hecke_tower_of_images(images: &[u8], tower: &mut [u8]) -> u64
     ensures { tower_of_images images.now tower.old ≡ record { word = result; lent = tower.new } }
 {
-    let verdict = image_walk::tower_of(images, tower);
-    returned::verdict(verdict)
+    word(image_walk::tower_of(images, tower))
 }
 
 // The image list of a tower.
@@ -26,8 +28,7 @@ pub extern "C" fn hecke_tower_of_images(images: &[u8], tower: &mut [u8]) -> u64
 pub extern "C" fn hecke_images_of_tower(tower: &[u8], images: &mut [u8]) -> u64
     ensures { images_of_tower tower.now images.old ≡ record { word = result; lent = images.new } }
 {
-    let verdict = towers::images_of(tower, images);
-    returned::verdict(verdict)
+    word(towers::images_of(tower, images))
 }
 
 // The tower of the inverse of a tower's permutation.
@@ -36,8 +37,7 @@ pub extern "C" fn hecke_images_of_tower(tower: &[u8], images: &mut [u8]) -> u64
 pub extern "C" fn hecke_tower_inverse(tower: &[u8], res: &mut [u8]) -> u64
     ensures { tower_inverse tower.now res.old ≡ record { word = result; lent = res.new } }
 {
-    let verdict = towers::inverse(tower, res);
-    returned::verdict(verdict)
+    word(towers::inverse(tower, res))
 }
 
 // The tower of the product of two towers' permutations, the first of which acts first.
@@ -46,8 +46,7 @@ pub extern "C" fn hecke_tower_inverse(tower: &[u8], res: &mut [u8]) -> u64
 pub extern "C" fn hecke_tower_product(left: &[u8], right: &[u8], res: &mut [u8]) -> u64
     ensures { tower_product left.now right.now res.old ≡ record { word = result; lent = res.new } }
 {
-    let verdict = towers::product(left, right, res);
-    returned::verdict(verdict)
+    word(towers::product(left, right, res))
 }
 
 // The length of a tower's permutation, as the answer.
@@ -56,8 +55,7 @@ pub extern "C" fn hecke_tower_product(left: &[u8], right: &[u8], res: &mut [u8])
 pub extern "C" fn hecke_tower_length(tower: &[u8], answer: &mut [u64]) -> u64
     ensures { tower_length tower.now answer.old ≡ record { word = result; lent = answer.new } }
 {
-    let length = tower_words::length(tower);
-    returned::counted(length, answer)
+    returned(tower_words::length(tower), answer)
 }
 
 // The standard shortest word of a tower's permutation; the answer is the number of its letters.
@@ -67,8 +65,7 @@ pub extern "C" fn hecke_tower_word(tower: &[u8], word: &mut [u8], answer: &mut [
     ensures { tower_word tower.now word.old answer.old
         ≡ record { word = result; lent = word.new; answer = answer.new } }
 {
-    let letters = tower_words::standard_word(tower, word);
-    returned::counted(letters, answer)
+    returned(tower_words::standard_word(tower, word), answer)
 }
 
 // The descent set of a tower's permutation: the answer is its mask and the number of its set bits.
@@ -77,8 +74,7 @@ pub extern "C" fn hecke_tower_word(tower: &[u8], word: &mut [u8], answer: &mut [
 pub extern "C" fn hecke_tower_descents(tower: &[u8], answer: &mut [u64]) -> u64
     ensures { tower_descents tower.now answer.old ≡ record { word = result; lent = answer.new } }
 {
-    let generators = tower_words::descents(tower);
-    returned::generators(generators, answer)
+    returned(tower_words::descents(tower), answer)
 }
 
 // The sum of two elements of rank m; the answer is its count.
@@ -94,8 +90,7 @@ pub extern "C" fn hecke_sum(
     ensures { sum m left.now right.now res.old answer.old
         ≡ record { word = result; lent = res.new; answer = answer.new } }
 {
-    let done = linear::sum(m, left, right, res);
-    returned::answered(done, answer)
+    returned(linear::sum(m, left, right, res), answer)
 }
 
 // An element of rank m times the word c; the answer is its count.
@@ -111,8 +106,7 @@ pub extern "C" fn hecke_scale(
     ensures { scale m c element.now res.old answer.old
         ≡ record { word = result; lent = res.new; answer = answer.new } }
 {
-    let done = linear::scale(m, c, element, res);
-    returned::answered(done, answer)
+    returned(linear::scale(m, c, element, res), answer)
 }
 
 // The word's generators T_i act on the element of rank m, left to right; the answer is its count.
@@ -128,8 +122,7 @@ pub extern "C" fn hecke_act_word(
     ensures { act_word m q word.now element.old answer.old
         ≡ record { word = result; lent = element.new; answer = answer.new } }
 {
-    let done = word_actions::act_word(m, q, word, element);
-    returned::answered(done, answer)
+    returned(word_actions::act_word(m, q, word, element), answer)
 }
 
 // The word's signed letters act on the element of rank m, left to right, -i as the inverse of T_i; the answer is its count.
@@ -146,8 +139,7 @@ pub extern "C" fn hecke_act_signed_word(
     ensures { act_signed_word m q word.now element.old answer.old
         ≡ record { word = result; lent = element.new; answer = answer.new } }
 {
-    let done = word_actions::act_signed_word(m, q, word, element);
-    returned::answered(done, answer)
+    returned(word_actions::act_signed_word(m, q, word, element), answer)
 }
 
 // The product of two elements of rank m; the answer is its count.
@@ -165,8 +157,7 @@ pub extern "C" fn hecke_product(
     ensures { product m q left.now right.now res.old scratch.old answer.old
         ≡ record { word = result; lent = record { result = res.new; scratch = scratch.new }; answer = answer.new } }
 {
-    let done = hecke::product(m, q, left, right, res, scratch);
-    returned::answered(done, answer)
+    returned(hecke::product(m, q, left, right, res, scratch), answer)
 }
 
 // The pairing of two elements of rank m, which is the coefficient of the unit in their product, as the answer.
@@ -182,9 +173,7 @@ pub extern "C" fn hecke_pairing(
     ensures { pairing m q left.now right.now answer.old
         ≡ record { word = result; lent = answer.new } }
 {
-    let paired = pairings::pairing(m, q, left, right);
-    let verdict = paired.verdict;
-    returned::valued(verdict, paired.value, answer)
+    returned(pairings::pairing(m, q, left, right), answer)
 }
 
 // The trace of an element of rank m with the parameter z, as the answer.
@@ -201,9 +190,7 @@ pub extern "C" fn hecke_trace(
     ensures { trace m q z element.now scratch.old answer.old
         ≡ record { word = result; lent = scratch.new; answer = answer.new } }
 {
-    let traced = traces::trace(m, q, z, element, scratch);
-    let verdict = traced.verdict;
-    returned::valued(verdict, traced.value, answer)
+    returned(traces::trace(m, q, z, element, scratch), answer)
 }
 
 // The check of a whole sheet.
@@ -212,8 +199,7 @@ pub extern "C" fn hecke_trace(
 pub extern "C" fn hecke_sheet_check(sheet: &[u8]) -> u64
     ensures { result ≡ sheet_check sheet.now }
 {
-    let checked = sheet::check(sheet);
-    returned::verdict(checked)
+    word(sheet::check(sheet))
 }
 
 // The run of a whole sheet on lent registers, 4 x 720 words; the answer is its count.
@@ -223,8 +209,7 @@ pub extern "C" fn hecke_run_sheet(sheet: &[u8], registers: &mut [u64], answer: &
     ensures { run_sheet sheet.now registers.old answer.old
         ≡ record { word = result; lent = registers.new; answer = answer.new } }
 {
-    let ran = runner::run_into(sheet, registers);
-    returned::answered(ran, answer)
+    returned(runner::run_into(sheet, registers), answer)
 }
 
 // M, the number of words of an element of rank m; 0 above rank 6.

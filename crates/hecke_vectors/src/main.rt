@@ -17,127 +17,117 @@
 
 #![tactic(auto)]
 
-use refusals::{Answer, Verdict};
+use refusals::{Answer, Refusal};
 use std::io;
-use vector_io::{Read, print_field};
+use vector_io::{print_field, read_front, read_number};
 
-// The size of a list, at most that of the slice, whose front its words are put in.
-fn read_words(input: &mut impl io::Read, words: &mut [u64]) -> Read {
-    let Read::Number(size) = vector_io::read_number(input, 2) else {
-        return Read::End;
-    };
-    let n = size as usize;
-    if words.len() < n {
-        return Read::End;
-    }
-    for i in 0..n {
-        let Read::Number(word) = vector_io::read_number(input, 8) else {
-            return Read::End;
-        };
-        words[i] = word;
-    }
-    Read::Number(size)
+// What is read and lent stands in these; each word of the result and the scratch is 170 before the call.
+#[derive(Drop)]
+struct Space {
+    left: [u64; 5041],
+    right: [u64; 5041],
+    word: [u8; 4097],
+    res: [u64; 5041],
+    scratch: [u64; 60500],
 }
 
-// The same of a list of letters.
-fn read_letters(input: &mut impl io::Read, letters: &mut [u8]) -> Read {
-    let Read::Number(size) = vector_io::read_number(input, 2) else {
-        return Read::End;
-    };
-    let n = size as usize;
-    if letters.len() < n {
-        return Read::End;
-    }
-    if input.read_exact(&mut letters[0..n]).is_err() {
-        return Read::End;
-    }
-    Read::Number(size)
+// A call with all that it is given and lent.
+struct Call<'a> {
+    kind: u64,
+    m: usize,
+    q: u64,
+    left: &'a mut [u64],
+    right: &'a [u64],
+    word: &'a [u8],
+    res: &'a mut [u64],
+    scratch: &'a mut [u64],
 }
 
-fn print_verdict(rt: &impl Print, verdict: Verdict) -> io::Result<()> {
-    match verdict {
-        Verdict::Accepted => print!(rt; "A"),
-        Verdict::Refused(why) => {
-            print!(rt; "E")?;
-            print_field(rt, refusals::number_of(why) as u64)?;
-            print_field(rt, refusals::place_of(why) as u64)
-        }
-    }
+// As many words at the front of the space as the size that is read says.
+fn read_size<'a>(input: &mut impl io::Read, space: &'a mut [u64]) -> Option<&'a mut [u64]> {
+    let size = read_number(input, 2)?;
+    space.get_mut(0..size as usize)
 }
 
-fn print_answer(rt: &impl Print, answer: Answer) -> io::Result<()> {
-    let verdict = answer.verdict;
-    print_verdict(rt, verdict)?;
-    print_field(rt, answer.count)
+// A list of words, at the front of the space.
+fn read_words<'a>(input: &mut impl io::Read, space: &'a mut [u64]) -> Option<&'a mut [u64]> {
+    let words = read_size(input, space)?;
+    for word in words.iter_mut() {
+        *word = read_number(input, 8)?;
+    }
+    Some(words)
+}
+
+// A list of letters, at the front of the space.
+fn read_letters<'a>(input: &mut impl io::Read, space: &'a mut [u8]) -> Option<&'a [u8]> {
+    let size = read_number(input, 2)?;
+    read_front(input, size as usize, space)
+}
+
+// The next call, if it is all there.
+fn read_call<'a>(input: &mut impl io::Read, space: &'a mut Space) -> Option<Call<'a>> {
+    let Space {
+        left,
+        right,
+        word,
+        res,
+        scratch,
+    } = space;
+    Some(Call {
+        kind: read_number(input, 1)?,
+        m: read_number(input, 1)? as usize,
+        q: read_number(input, 8)?,
+        left: read_words(input, left)?,
+        right: read_words(input, right)?,
+        word: read_letters(input, word)?,
+        res: read_size(input, res)?,
+        scratch: read_size(input, scratch)?,
+    })
+}
+
+// A and the number that is answered, or E with the number and the place of the refusal, and then 0.
+fn print_number(rt: &impl Print, answered: Result<u64, Refusal>) -> io::Result<()> {
+    match answered {
+        Ok(_) => print!(rt; "A")?,
+        Err(why) => print!(rt; "E {why}")?,
+    }
+    print_field(rt, answered.unwrap_or(0))
 }
 
 // The words as digits of a number modulo 2^64, the first the highest. The base is odd: each word counts.
 fn digest(words: &[u64]) -> u64 {
-    let mut sum: u64 = 0;
-    for i in 0..words.len() {
-        sum = ring::add(ring::mul(sum, 0x5851_f42d_4c95_7f2d), words[i]);
-    }
-    sum
-}
-
-fn print_all(rt: &impl Print, words: &[u64]) -> io::Result<()> {
-    for i in 0..words.len() {
-        print_field(rt, words[i])?;
-    }
-    Ok(())
+    words.iter().fold(0, |sum, word| {
+        ring::add(ring::mul(sum, 0x5851_f42d_4c95_7f2d), *word)
+    })
 }
 
 fn print_words(rt: &impl Print, words: &[u64]) -> io::Result<()> {
     if 120 < words.len() {
         return print_field(rt, digest(words));
     }
-    print_all(rt, words)
+    for word in words {
+        print_field(rt, *word)?;
+    }
+    Ok(())
 }
 
-fn run_sum(
+// The count of a call that writes, and what is then written.
+fn print_written(
     rt: &impl Print,
-    m: usize,
-    left: &[u64],
-    right: &[u64],
-    res: &mut [u64],
+    answered: Result<Answer, Refusal>,
+    words: &[u64],
 ) -> io::Result<()> {
-    print_answer(rt, linear::sum(m, left, right, res))?;
-    print_words(rt, res)
+    print_number(rt, answered.map(|answer| answer.count))?;
+    print_words(rt, words)
 }
 
-fn run_scale(
-    rt: &impl Print,
-    m: usize,
-    c: u64,
-    element: &[u64],
-    res: &mut [u64],
-) -> io::Result<()> {
-    print_answer(rt, linear::scale(m, c, element, res))?;
-    print_words(rt, res)
-}
-
-fn run_word(rt: &impl Print, m: usize, q: u64, word: &[u8], element: &mut [u64]) -> io::Result<()> {
-    print_answer(rt, word_actions::act_word(m, q, word, element))?;
-    print_words(rt, element)
-}
-
-// The signed letter of a byte, by two's complement.
-fn letter_of(byte: u8) -> i8 {
-    if byte < 128 {
-        return byte as i8;
+// The signed letters of the bytes, at the front of the space.
+fn signed_letters<'a>(bytes: &[u8], space: &'a mut [i8]) -> Option<&'a [i8]> {
+    let letters = space.get_mut(0..bytes.len())?;
+    for (letter, byte) in letters.iter_mut().zip(bytes) {
+        *letter = byte.cast_signed();
     }
-    let below = (255 - byte) as i8;
-    -1 - below
-}
-
-// The signed letters of the bytes, where there is room for them.
-fn put_letters(letters: &mut [i8], bytes: &[u8]) {
-    if letters.len() < bytes.len() {
-        return;
-    }
-    for i in 0..bytes.len() {
-        letters[i] = letter_of(bytes[i]);
-    }
+    Some(letters)
 }
 
 fn run_signed_word(
@@ -147,189 +137,63 @@ fn run_signed_word(
     bytes: &[u8],
     element: &mut [u64],
 ) -> io::Result<()> {
-    let mut letters = [0i8; 4097];
-    let n = bytes.len();
-    if 4097 < n {
+    let mut space = [0i8; 4097];
+    let Some(letters) = signed_letters(bytes, &mut space) else {
         return Ok(());
-    }
-    put_letters(&mut letters, bytes);
-    print_answer(
-        rt,
-        word_actions::act_signed_word(m, q, &letters[0..n], element),
-    )?;
-    print_words(rt, element)
-}
-
-fn run_product(
-    rt: &impl Print,
-    m: usize,
-    q: u64,
-    left: &[u64],
-    right: &[u64],
-    res: &mut [u64],
-    scratch: &mut [u64],
-) -> io::Result<()> {
-    print_answer(rt, hecke::product(m, q, left, right, res, scratch))?;
-    print_words(rt, res)?;
-    print_field(rt, digest(scratch))
-}
-
-fn run_pairing(rt: &impl Print, m: usize, q: u64, left: &[u64], right: &[u64]) -> io::Result<()> {
-    let answer = pairings::pairing(m, q, left, right);
-    let verdict = answer.verdict;
-    print_verdict(rt, verdict)?;
-    print_field(rt, answer.value)
-}
-
-// The first of the words, or 0 where there is none.
-fn first(words: &[u64]) -> u64 {
-    if words.len() == 0 {
-        return 0;
-    }
-    words[0]
-}
-
-fn run_trace(
-    rt: &impl Print,
-    m: usize,
-    q: u64,
-    z: u64,
-    element: &[u64],
-    scratch: &mut [u64],
-) -> io::Result<()> {
-    let answer = traces::trace(m, q, z, element, scratch);
-    let verdict = answer.verdict;
-    print_verdict(rt, verdict)?;
-    print_field(rt, answer.value)?;
-    print_field(rt, digest(scratch))
-}
-
-fn run(
-    rt: &impl Print,
-    call: u8,
-    m: usize,
-    q: u64,
-    left: &mut [u64],
-    right: &[u64],
-    word: &[u8],
-    res: &mut [u64],
-    scratch: &mut [u64],
-) -> io::Result<()> {
-    match call {
-        1 => run_sum(rt, m, left, right, res),
-        2 => run_scale(rt, m, q, left, res),
-        3 => run_word(rt, m, q, word, left),
-        5 => run_signed_word(rt, m, q, word, left),
-        6 => run_pairing(rt, m, q, left, right),
-        7 => run_trace(rt, m, q, first(right), left, scratch),
-        _ => run_product(rt, m, q, left, right, res, scratch),
-    }
-}
-
-// Runs the call on result and scratch slices of the sizes that are read next, and whether they were there.
-fn lend(
-    rt: &impl Print,
-    input: &mut impl io::Read,
-    call: u8,
-    m: usize,
-    q: u64,
-    left: &mut [u64],
-    right: &[u64],
-    word: &[u8],
-) -> io::Result<bool> {
-    let mut result = [170u64; 5041];
-    let mut scratch = [170u64; 60500];
-    let Read::Number(result_size) = vector_io::read_number(input, 2) else {
-        return Ok(false);
     };
-    let Read::Number(scratch_size) = vector_io::read_number(input, 2) else {
-        return Ok(false);
-    };
-    let n = result_size as usize;
-    let k = scratch_size as usize;
-    if 5041 < n || 60500 < k {
-        return Ok(false);
-    }
-    run(
+    print_written(
         rt,
-        call,
+        word_actions::act_signed_word(m, q, letters, element),
+        element,
+    )
+}
+
+fn run(rt: &impl Print, call: Call) -> io::Result<()> {
+    let Call {
+        kind,
         m,
         q,
         left,
         right,
         word,
-        &mut result[0..n],
-        &mut scratch[0..k],
-    )?;
-    println!(rt)?;
-    Ok(true)
-}
-
-// Reads the lists of a call and runs it, and whether it was all there.
-fn line_of(
-    rt: &impl Print,
-    input: &mut impl io::Read,
-    call: u8,
-    m: usize,
-    q: u64,
-) -> io::Result<bool> {
-    let mut left = [0u64; 5041];
-    let mut right = [0u64; 5041];
-    let mut word = [0u8; 4097];
-    let Read::Number(left_size) = read_words(input, &mut left) else {
-        return Ok(false);
-    };
-    let Read::Number(right_size) = read_words(input, &mut right) else {
-        return Ok(false);
-    };
-    let Read::Number(word_size) = read_letters(input, &mut word) else {
-        return Ok(false);
-    };
-    let a = left_size as usize;
-    let b = right_size as usize;
-    let c = word_size as usize;
-    if 5041 < a {
-        return Ok(false);
+        res,
+        scratch,
+    } = call;
+    // The byte is matched here alone: an enum of the calls would be matched a second time, to be made of it.
+    match kind {
+        1 => print_written(rt, linear::sum(m, left, right, res), res),
+        2 => print_written(rt, linear::scale(m, q, left, res), res),
+        3 => print_written(rt, word_actions::act_word(m, q, word, left), left),
+        5 => run_signed_word(rt, m, q, word, left),
+        6 => print_number(rt, pairings::pairing(m, q, left, right)),
+        7 => {
+            let z = right.first().copied().unwrap_or(0);
+            print_number(rt, traces::trace(m, q, z, left, scratch))?;
+            print_field(rt, digest(scratch))
+        }
+        _ => {
+            print_written(rt, hecke::product(m, q, left, right, res, scratch), res)?;
+            print_field(rt, digest(scratch))
+        }
     }
-    if 5041 < b {
-        return Ok(false);
-    }
-    if 4097 < c {
-        return Ok(false);
-    }
-    lend(
-        rt,
-        input,
-        call,
-        m,
-        q,
-        &mut left[0..a],
-        &right[0..b],
-        &word[0..c],
-    )
-}
-
-// One line, and whether there was a call.
-fn line(rt: &impl Print, input: &mut impl io::Read) -> io::Result<bool> {
-    let Read::Number(call) = vector_io::read_number(input, 1) else {
-        return Ok(false);
-    };
-    let Read::Number(m) = vector_io::read_number(input, 1) else {
-        return Ok(false);
-    };
-    let Read::Number(q) = vector_io::read_number(input, 8) else {
-        return Ok(false);
-    };
-    line_of(rt, input, (call % 256) as u8, m as usize, q)
 }
 
 // A proved loop ends: 65,536 lines are more than are stored.
 fn main(rt: HostRuntime) -> io::Result<()> {
     let mut input = rt.stdin();
     for _ in 0..65536 {
-        if !line(&rt, &mut input)? {
+        let mut space = Space {
+            left: [0; 5041],
+            right: [0; 5041],
+            word: [0; 4097],
+            res: [170; 5041],
+            scratch: [170; 60500],
+        };
+        let Some(call) = read_call(&mut input, &mut space) else {
             break;
-        }
+        };
+        run(&rt, call)?;
+        println!(rt)?;
     }
     Ok(())
 }

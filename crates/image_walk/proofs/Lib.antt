@@ -4,5 +4,5 @@ pub mod Held
 pub mod Outcome
 mod Walking
 mod Turn
-mod Vetted
-mod CallEnds
+pub mod Vetted
+pub mod CallEnds

@@ -1,4 +1,4 @@
--- One turn of the walk's loop, by the bit b of its image, which is b + 1 modulo 2^8. Rests on Digit, Walking, perms' Tower
+-- One turn of the walk's loop, by the bit b of its image x, which is x - 1 modulo 2^8. Rests on Digit, Walking, perms' Tower
 -- and perm_calls' Seen and SeenDigits.
 use Rattle.std.proofs.Common.{◌≡◌, ℕ, ◌+◌, ◌-◌, ◌*◌, ◌/◌, ◌%◌, ◌^◌, ◌<◌, ◌≤◌, false, ◌≢◌, List, length, get_or, set, sym, ap, ◌∙◌, subst, arith}
 use lib.Bits.{bit_or}
@@ -12,6 +12,7 @@ use Rattle.perm_calls.proofs.Seen.{Seen, New, seen_more, good_new}
 use Rattle.perm_calls.proofs.SeenDigits.{seen_entry, outside_bad, bad_digit}
 use Rattle.image_walk.specs.Walk.{Walked}
 use Rattle.image_walk.proofs.Digit.{mark_digit}
+use Rattle.std.specs.Prelude.{Some}
 use Rattle.image_walk.proofs.Walking.{Walking, walking_more, walking_bad}
 
 -- the image of a turn, and what the code holds before it
@@ -19,25 +20,25 @@ pub record Turn (w entries : List ℕ) (seen i b : ℕ) : Type 0 where
   pub walking : Walking w entries seen i
   pub few : length w ≤ 64
   pub inside : i < length w
-  pub byte : b < 2 ^ 8
-  pub image : (b + 1) % 2 ^ 8 ≡ get_or w i 0
+  pub byte : get_or w i 0 < 256
+  pub bit_at : b ≡ (get_or w i 0 + 255) % 256
 
 module _ {w entries : List ℕ} {seen i b : ℕ} (t : Turn w entries seen i b) where
   -- it is 0 or too large
-  pub turn_outside : length w ≤ b → Walked w entries i
-  turn_outside l = walking_bad t.walking t.inside (outside_bad w i (λ n. omega (arith, t.image, t.byte)))
+  pub turn_outside : length w ≤ b → Walked w entries (Some i)
+  turn_outside l = walking_bad t.walking t.inside (outside_bad w i (λ n. omega (arith, t.bit_at, t.byte)))
 
   module _ (l : b < length w) where
     at : b ≡ get_or w i 0 - 1
-    at = omega (arith, t.image, t.few)
+    at = omega (arith, t.bit_at, t.byte, t.few)
 
     digit : seen / 2 ^ b % 2 ≡ bit (bad_image w i)
     digit =
         ap (λ n. seen / 2 ^ n % 2) at
-        ∙ bad_digit t.walking.mask t.few (λ z. omega (arith, t.image, t.few)) (omega (arith, t.image, t.few))
+        ∙ bad_digit t.walking.mask t.few (λ z. omega (arith, t.bit_at, t.byte, t.few)) (omega (arith, t.bit_at, t.byte, t.few))
 
     -- it is already seen
-    pub turn_seen : seen / 2 ^ b % 2 ≡ 1 → Walked w entries i
+    pub turn_seen : seen / 2 ^ b % 2 ≡ 1 → Walked w entries (Some i)
     turn_seen s = walking_bad t.walking t.inside (bit_true _ (sym digit ∙ s))
 
     -- it is good

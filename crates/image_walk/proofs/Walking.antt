@@ -3,13 +3,14 @@
 use Rattle.std.proofs.Common.{◌≡◌, ℕ, ◌+◌, ◌<◌, ◌≤◌, true, false, List, [], length, get_or, take, drop, set, sym, refl, ap, ◌∙◌, arith, length-drop, length-set, length-take-le, get_or-drop, get_or-set_other, get_or-take, get_or-set_same, ext_get_or}
 use lib.Seq.{take-set-le}
 use Rattle.lists.specs.Lists.{first}
-use Rattle.lists.proofs.Test.{SameView, is, isnt, LessView, lt, ge, same?, less?, less_no}
-use Rattle.lists.proofs.Search.{first_none_of, first_there, first_more}
+use Rattle.lists.proofs.Test.{SameView, is, isnt, LessView, lt, ge, same?, less?, less_yes, less_no}
+use Rattle.lists.proofs.Search.{first_there, first_more}
 use Rattle.perms.specs.Tower.{entry, tower_of}
 use Rattle.perms.proofs.Prefix.{get_or_tower_prefix, length_tower_prefix}
 use Rattle.perm_calls.specs.Calls.{bad_image, first_bad_image}
 use Rattle.perm_calls.proofs.Seen.{Seen, seen_none}
 use Rattle.image_walk.specs.Walk.{Entries, Bad, held, holding, Walked}
+use Rattle.std.specs.Prelude.{Some, None}
 use Rattle.image_walk.proofs.Held.{Good, held_good, held_bad, held_entries}
 
 -- after i images, none of them bad: the entries a_0, a_1, .. of these, so that what was held after each j of them still stands, and their mask
@@ -75,21 +76,21 @@ module _ {w entries : List ℕ} {seen i : ℕ} (g : Walking w entries seen i) wh
       go j k (isnt p q) = g.holds j (omega arith) ∙ ap (λ t. Entries (drop 1 t)) (sym (take-set-le j entries i v (omega arith)))
 
   -- a bad image
-  pub walking_bad : i < length w → bad_image w i ≡ true → Walked w entries i
+  pub walking_bad : i < length w → bad_image w i ≡ true → Walked w entries (Some i)
   unfolding holding first_bad_image
-  walking_bad h e = record { index = sym (found (length w) h); holds = λ j l. go j (less? i j) }
+  walking_bad h e = record { index = rw (there (length w) h, less_yes h); holds = λ j l. go j (less? i j) }
     where
-      found : (j : ℕ) → i < j → first (bad_image w) 0 j ≡ i
-      found j k = first_there (bad_image w) j i k (held_entries w i (g.holds i (omega arith))).0 e
+      there : (j : ℕ) → i < j → first (bad_image w) 0 j ≡ i
+      there j k = first_there (bad_image w) j i k (held_entries w i (g.holds i (omega arith))).0 e
 
-      go : (j : ℕ) → LessView i j → held w j ≡ holding j i entries
-      go j (lt k f) = held_bad w j (omega (arith, found j k)) ∙ ap Bad (found j k) ∙ rw f refl
+      go : (j : ℕ) → LessView i j → held w j ≡ holding j (Some i) entries
+      go j (lt k f) = held_bad w j (omega (arith, there j k)) ∙ ap Bad (there j k) ∙ rw f refl
       go j (ge k f) = g.holds j k ∙ rw f refl
 
   -- all images
-  pub walking_all : length w ≤ i → Walked w entries (length w)
+  pub walking_all : length w ≤ i → Walked w entries None
   unfolding holding first_bad_image
   walking_all h = record {
-    index = sym (first_none_of (bad_image w) (length w) (held_entries w (length w) (g.holds (length w) (omega arith))).0);
-    holds = λ j l. g.holds j (omega arith) ∙ rw (less_no l) refl;
+    index = rw (less_no (held_entries w (length w) (g.holds (length w) (omega arith))).0);
+    holds = λ j l. g.holds j (omega arith);
   }

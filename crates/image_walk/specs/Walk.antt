@@ -2,20 +2,19 @@
 --
 --   Held             entries of a tower, or the index of a bad image
 --   held w j         for j up to the size of w: the tower of the first j images while none of them is bad, and from the first bad one on its index
---   holding j r es   what code holds after j images, if it stops at the index r and has the entries a_0, a_1, .. in es
---   Walked w es r    r is the index of the first bad image of w, else the number of images; and r and es show what is held, for every j up to the size of w
+--   holding j r es   what code holds after j images, if it finds r, the index of a bad image or none, and has the entries a_0, a_1, .. in es
+--   Walked w es r    r is the index of the first bad image of w, if there is one; and r and es show what is held, for every j up to the size of w
 --   Vetted w es v    v is the verdict on w by checks 5 and 6, and if it accepts w, then es holds the tower of w after a_0
 --   Walk w j         for j up to the size of w. before, after: the entries held are a_1 to a_(j-1) of the tower of w up to its first bad image, and from
 --                    there on the index of that image is held. prefix, alone: these entries depend on the first j images alone, and what is held
 --                    on these and on the size of w
 --   TowerCall w b    for w of 1 to 64 images: what the call answers and leaves in the buffer b, by what the walk holds in the end
-use Rattle.std.specs.Prelude.{◌≡◌, ℕ, pred, ◌+◌, ◌<◌, ◌≤◌, cond, ◌≢◌, List, length, take, drop}
+use Rattle.std.specs.Prelude.{◌≡◌, ℕ, pred, ◌+◌, ◌<◌, ◌≤◌, cond, ◌≢◌, List, length, take, drop, Option, Some, None, Ok, Err}
 use Rattle.lists.specs.Lists.{less, first}
+use Rattle.refusals.specs.Refusals.{Verdict}
 use Rattle.refusals.specs.declared.Refusal.TheVariants.{Image, Buffer}
-use Rattle.refusals.specs.declared.Verdict.{Verdict}
-use Rattle.refusals.specs.declared.Verdict.TheVariants.{Accepted, Refused}
 use Rattle.perms.specs.Tower.{tower_of}
-use Rattle.perm_calls.specs.Calls.{bad_image, first_bad_image, images_verdict, tower_of_call}
+use Rattle.perm_calls.specs.Calls.{found, bad_image, first_bad_image, images_verdict, tower_of_call}
 
 pub data Held : Type 0 where
   Entries : List ℕ → Held
@@ -26,16 +25,17 @@ held w j =
     let bad = first (bad_image w) 0 j in
     cond (less bad j) (Bad bad) (Entries (tower_of (take j w)))
 
-unfoldable pub holding : ℕ → ℕ → List ℕ → Held
-holding j r entries = cond (less r j) (Bad r) (Entries (drop 1 (take j entries)))
+unfoldable pub holding : ℕ → Option ℕ → List ℕ → Held
+holding j None entries = Entries (drop 1 (take j entries))
+holding j (Some r) entries = cond (less r j) (Bad r) (Entries (drop 1 (take j entries)))
 
-pub record Walked (w entries : List ℕ) (r : ℕ) : Type 0 where
-  pub index : r ≡ first_bad_image w
+pub record Walked (w entries : List ℕ) (r : Option ℕ) : Type 0 where
+  pub index : r ≡ found (first_bad_image w) (length w)
   pub holds : (j : ℕ) → j ≤ length w → held w j ≡ holding j r entries
 
 pub record Vetted (w entries : List ℕ) (v : Verdict) : Type 0 where
   pub verdict : v ≡ images_verdict w
-  pub tower : v ≡ Accepted → drop 1 (take (length w) entries) ≡ tower_of w
+  pub tower : v ≡ Ok tt → drop 1 (take (length w) entries) ≡ tower_of w
 
 pub record Walk (w : List ℕ) (j : ℕ) : Type 0 where
   pub before : j ≤ first_bad_image w → held w j ≡ Entries (take (pred j) (tower_of w))
@@ -44,6 +44,6 @@ pub record Walk (w : List ℕ) (j : ℕ) : Type 0 where
   pub alone : (v : List ℕ) → length v ≡ length w → take j v ≡ take j w → held v j ≡ held w j
 
 pub record TowerCall (w buffer : List ℕ) : Type 0 where
-  pub refused : (i : ℕ) → held w (length w) ≡ Bad i → tower_of_call w buffer ≡ record { answer = Refused (Image i); lent = buffer }
-  pub unfit : (t : List ℕ) → held w (length w) ≡ Entries t → length buffer + 1 ≢ length w → tower_of_call w buffer ≡ record { answer = Refused Buffer; lent = buffer }
-  pub done : (t : List ℕ) → held w (length w) ≡ Entries t → length buffer + 1 ≡ length w → tower_of_call w buffer ≡ record { answer = Accepted; lent = t }
+  pub refused : (i : ℕ) → held w (length w) ≡ Bad i → tower_of_call w buffer ≡ record { answer = Err (Image i); lent = buffer }
+  pub unfit : (t : List ℕ) → held w (length w) ≡ Entries t → length buffer + 1 ≢ length w → tower_of_call w buffer ≡ record { answer = Err Buffer; lent = buffer }
+  pub done : (t : List ℕ) → held w (length w) ≡ Entries t → length buffer + 1 ≡ length w → tower_of_call w buffer ≡ record { answer = Ok tt; lent = t }

@@ -8,26 +8,14 @@ use Rattle.ring.specs.Modular.{modular, word_modulus, words}
 use Rattle.ring.proofs.Modular.{mul_mod_left, words_pos}
 use Rattle.lists.specs.Lists.{bit}
 use Rattle.lists.proofs.Test.{SameView, is, isnt, same?}
-use Rattle.inverses.specs.Steps.{Closer}
 use Rattle.inverses.specs.Inverses.{IsInverse, inverse, has_inverse, WordInverses}
-use Rattle.inverses.proofs.Newton.{closer}
-use Rattle.inverses.proofs.Odd.{is_inverse}
+use Rattle.inverses.proofs.Odd.{Stepped, closer, is_inverse}
 use Rattle.inverses.proofs.Search.{found_is, none_missed}
 
 -- ---- odd words
 
 next : ℕ → ℕ → ℕ
 next q x = words.mul x ((2 + (2 ^ 64 - words.mul q x)) % 2 ^ 64)
-
-next_closer : (q x : ℕ) → q < 2 ^ 64 → x < 2 ^ 64 → Closer q x (next q x)
-unfolding next
-next_closer q x hq hx = closer q x t (next q x) hq hx (mod-lt _ words_pos) two refl
-  where
-    t : ℕ
-    t = (2 + (2 ^ 64 - words.mul q x)) % 2 ^ 64
-
-    two : words.add t (words.mul q x) ≡ 2
-    two = unfold modular in omega arith
 
 iterated : ℕ → ℕ → ℕ
 iterated q zero = q
@@ -39,13 +27,13 @@ module _ (q : ℕ) (hq : q < 2 ^ 64) where
   small zero = hq
   small (suc n) = mod-lt _ words_pos
 
-  near : (n : ℕ) → Closer q (iterated q n) (iterated q (suc n))
-  unfolding iterated
-  near n = next_closer q (iterated q n) hq (small n)
+  stepped : (n : ℕ) → Stepped q n (iterated q n)
+  unfolding iterated next Stepped
+  stepped zero = refl
+  stepped (suc n) = (iterated q n, stepped n, closer hq (small n) refl refl)
 
   odd_word : q % 2 ≡ 1 → IsInverse (2 ^ 64) q (iterated q 5)
-  unfolding iterated
-  odd_word h = is_inverse (small 5) h (near 0) (near 1) (near 2) (near 3) (near 4)
+  odd_word h = is_inverse (small 5) h (stepped 5)
 
 -- ---- every number
 

@@ -7,11 +7,9 @@
 --   IsInverse N q x   x is below N, and q x = 1 modulo N
 --   Inverses N q      for q < N: what is found is an inverse, there is no other, and where none is found there is none
 --   WordInverses q    for every q: modulo 2^64 it has an inverse exactly where it is odd
-use Rattle.std.specs.Prelude.{◌≡◌, ℕ, ◌%◌, ◌<◌, Bool, true, false, cond}
+use Rattle.std.specs.Prelude.{◌≡◌, ℕ, ◌%◌, ◌<◌, Bool, true, false, cond, Option, Some, None}
 use Rattle.ring.specs.Modular.{modular, word_modulus}
 use Rattle.lists.specs.Lists.{same, less, first}
-use Rattle.inverses.specs.declared.Inverse.{Inverse}
-use Rattle.inverses.specs.declared.Inverse.TheVariants.{Is, None}
 
 unfoldable pub gives_one : ℕ → ℕ → ℕ → Bool
 gives_one N q x = same ((modular N).mul q x) (modular N).one
@@ -22,8 +20,8 @@ inverse N q = first (gives_one N q) 0 N
 unfoldable pub has_inverse : ℕ → ℕ → Bool
 has_inverse N q = less (inverse N q) N
 
-unfoldable pub inverse_of : ℕ → ℕ → Inverse
-inverse_of N q = cond (has_inverse N q) (Is (inverse N q)) None
+unfoldable pub inverse_of : ℕ → ℕ → Option ℕ
+inverse_of N q = cond (has_inverse N q) (Some (inverse N q)) None
 
 -- ---- the claims
 

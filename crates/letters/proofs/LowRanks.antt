@@ -1,15 +1,13 @@
--- A letter on elements of rank 1 and 2, by the exchanges that are made, and on blocks of rank 4. Rests on algebra's LowRanks, block_loops' Fits and
+-- A letter on elements of rank 1 and 2, by the exchanges that are made. Rests on algebra's LowRanks, block_loops' Fits and
 -- lists' InRow.
 use mathlib.Core.Path.{◌≡◌, sym, ap, ◌∙◌}
 use mathlib.Core.List.{List, ◌++◌}
-use Prim.Native.Nat.{ℕ, suc, ◌+◌, ◌*◌, ◌-◌, ◌≤◌}
+use Prim.Native.Nat.{ℕ, suc, ◌+◌, ◌-◌, ◌≤◌}
 use native.Mathlib.Omega.{arith}
 use lib.ListN.{length, take, drop}
 use lib.Seq.{length-take-le}
 use borrow.Rule.Slice.PartMut.{mid_of, put_mid}
 use Rattle.lists.specs.Numbers.{factorial}
-use Rattle.lists.specs.Blocks.{block, blocks}
-use Rattle.perms.specs.Permutation.{Letter}
 use Rattle.algebra.specs.Pairs.{exchanged}
 use Rattle.algebra.proofs.LowRanks.{rank_one, rank_two_1, rank_two_2}
 use Rattle.element_calls.specs.declared.Parameters.{Parameters}
@@ -17,7 +15,7 @@ use Rattle.element_calls.specs.Coefficients.{ring}
 use Rattle.block_loops.specs.declared.Way.{Way}
 use Rattle.block_loops.specs.InPlace.{exchanging, exchange_in}
 use Rattle.block_loops.proofs.Fits.{exchange_fits}
-use Rattle.letters.specs.Letters.{lettered, LetterPre, EachLetterPre}
+use Rattle.letters.specs.Letters.{lettered, LetterPre}
 use Rattle.lists.proofs.InRow.{both_back, second_size}
 
 -- ---- sizes
@@ -29,19 +27,6 @@ rank_one_size e p = p.size ∙ ap (λ (n : ℕ). factorial (suc n)) e
 pub rank_two_size : {j : ℕ} {x : List ℕ} → LetterPre 2 j x → length x ≡ 6
 unfolding factorial
 rank_two_size p = p.size
-
-rank_four_blocks : {m b n j : ℕ} {x : List ℕ} → m ≡ 4 → EachLetterPre m b n j x → b ≡ 120
-unfolding factorial
-rank_four_blocks e p = p.block_size ∙ ap (λ (k : ℕ). factorial (suc k)) e
-
-pub rank_four_pre : {m b n j : ℕ} {x : List ℕ} → m ≡ 4 → EachLetterPre m b n j x → EachLetterPre 4 120 n j x
-unfolding factorial
-rank_four_pre {m} {b} {n} {j} e p = record {
-  rank = omega arith;
-  block_size = omega arith;
-  letter = λ h. let l : Letter m j = p.letter h in record { low = l.low; high = omega (arith, l.high) };
-  size = p.size ∙ ap (λ (k : ℕ). n * k) (rank_four_blocks e p);
-}
 
 module _ (w : Way) (p : Parameters) where
   -- ---- rank 1
@@ -77,10 +62,3 @@ module _ (w : Way) (p : Parameters) where
     exchanged_two_2 e s e₁ e₂ =
         both 4 2 1 (omega arith) (omega arith) s e₁ e₂
         ∙ sym (rank_two_2 ℕ (ring p) (exchanging w p) x (rank_two_size pre)) ∙ ap (λ (i : ℕ). lettered w p 2 i x) e
-
-  -- ---- blocks of rank 4
-
-  pub blocks_four : {m b n j : ℕ} {x v : List ℕ} → m ≡ 4 → EachLetterPre m b n j x → v ≡ blocks n (λ k. lettered w p 4 j (block 120 k x))
-      → v ≡ blocks n (λ k. lettered w p m j (block b k x))
-  blocks_four {m} {b} {n} {j} {x} e pre h =
-      h ∙ (λ i. blocks n (λ k. lettered w p (sym e i) j (block (sym (rank_four_blocks e pre) i) k x)))

@@ -75,18 +75,12 @@ module _ {a n c b high : ℕ} {x : List ℕ} (p : Cut a n c b high x) where
       pub size_2 : length y₂ ≡ length x
       size_2 = same_len_mid low (high - low) y₁ v₂ s₂ ∙ size_1
 
-      pub high_end : high ≤ length y₂
-      high_end = omega (arith, high_within, size_2)
-
       pub high_size : length (mid_of high (length y₂ - high) y₂) ≡ c * b
       high_size = rest_size high y₂ ∙ omega (arith, above_high, size_2)
 
       -- ---- the third part is back as v₃
 
       module _ (v₃ : List ℕ) where
-        pub cut_length : length v₃ ≡ length (mid_of high (length y₂ - high) y₂) → length (put_mid high (length y₂ - high) y₂ v₃) ≡ length x
-        cut_length s₃ = same_len_mid high (length y₂ - high) y₂ v₃ s₃ ∙ size_2
-
         -- f on each block of the first part, F on the second part, g on each block of the third
         pub cut_whole : (f F g : List ℕ → List ℕ) → v₁ ≡ blocks a (λ k. f (block b k (take (low - 0) x))) → v₂ ≡ F (mid_of low (high - low) y₁)
             → v₃ ≡ blocks c (λ k. g (block b k (mid_of high (length y₂ - high) y₂)))

@@ -2,7 +2,6 @@
 use mathlib.Core.Path.{◌≡◌, refl, sym, ap, ◌∙◌}
 use mathlib.Core.Bool.{Bool, true, false, cond}
 use Prim.Native.Nat.{ℕ, zero, suc, ◌+◌, ◌-◌, ◌≤◌, ◌<◌}
-use native.Mathlib.Nat.{sub-zero}
 use native.Mathlib.Numerals.{add-one}
 use native.Mathlib.Omega.{arith}
 use Rattle.lists.specs.Lists.{bit, first}
@@ -60,9 +59,6 @@ first_true p n l = go (p (first p 0 n)) refl
 -- the search from 0 goes on from i
 abbrev pub From : (ℕ → Bool) → ℕ → ℕ → Type 0
 From p n i = (i ≤ n) × (first p 0 n ≡ first p i (n - i))
-
-pub first_start : (p : ℕ → Bool) (n : ℕ) → From p n 0
-first_start p n = (omega arith, ap (first p 0) (sym (sub-zero n)))
 
 -- the next number meets the test, or not
 pub first_here : {n i : ℕ} (p : ℕ → Bool) → i < n → From p n i → p i ≡ true → i ≡ first p 0 n

@@ -26,10 +26,6 @@ first_is p n i h none e = go (less? r i) (less? i r)
 pub first_found : (p : ℕ → Bool) (j n : ℕ) → first p 0 j < j → first p 0 j < n → first p 0 n ≡ first p 0 j
 first_found p j n l h = first_is p n (first p 0 j) h (λ k f. passed p 0 j k (omega arith) f) (first_true p j l)
 
--- where nothing is found the search ends at its end
-pub first_none_of : (p : ℕ → Bool) (n : ℕ) → n ≤ first p 0 n → first p 0 n ≡ n
-first_none_of p n h = first_past p 0 n (λ i a l. passed p 0 n i a (omega arith)) ∙ omega arith
-
 -- where nothing is found among i numbers, the next one is found, or not
 pub first_there : (p : ℕ → Bool) (n i : ℕ) → i < n → i ≤ first p 0 i → p i ≡ true → first p 0 n ≡ i
 first_there p n i h l e = first_is p n i h (λ k f. passed p 0 i k (omega arith) (omega arith)) e

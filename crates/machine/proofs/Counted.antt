@@ -7,7 +7,7 @@ use Prim.Native.Nat.{ℕ, ◌^◌, ◌<◌}
 use native.Mathlib.Omega.{arith}
 use lib.ListN.{length}
 use Rattle.lists.proofs.All.{all_get_or}
-use Rattle.refusals.specs.declared.Answer.{Answer}
+use Rattle.refusals.specs.Refusals.{Answered}
 use Rattle.sheet_format.specs.declared.Header.{Header}
 use Rattle.sheet_format.specs.declared.Update.TheVariants as U
 use Rattle.sheet_format.specs.declared.Command.{Command}
@@ -31,7 +31,7 @@ module _ (h : Header) (x : List ℕ) (c : Command) where
   }
 
   -- the call left `last` for register r
-  obeying : {a : Answer} {last new : List ℕ} {n : ℕ} (r : ℕ) → Took a last new n → cost h.rank c ≡ n → obey h c x ≡ put r new x
+  obeying : {a : Answered} {last new : List ℕ} {n : ℕ} (r : ℕ) → Took a last new n → cost h.rank c ≡ n → obey h c x ≡ put r new x
       → Obeying h x c a (put r last x)
   obeying r t counts makes = record {
     taken = t.taken;

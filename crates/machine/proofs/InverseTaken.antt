@@ -11,7 +11,7 @@ use lib.IntN.{ℤ, pos, negsuc, neg_ℤ}
 use Rattle.ring.specs.Modular.{word_modulus}
 use Rattle.lists.specs.Numbers.{factorial}
 use Rattle.inverses.specs.Inverses.{has_inverse}
-use Rattle.refusals.specs.declared.Answer.{Answer}
+use Rattle.refusals.specs.Refusals.{Answered}
 use Rattle.perms.specs.Permutation.{Letter}
 use Rattle.signed_words.specs.InverseLetter.{inverse_letter}
 use Rattle.signed_words.specs.Words.{signed_letter, signed_act}
@@ -23,7 +23,7 @@ use Rattle.machine.proofs.Put.{Part}
 use Rattle.machine.proofs.Taken.{Took, took}
 
 -- the word is the letter z = -i alone
-pub inverse_taken : {m : ℕ} {lent h last : List ℕ} {z : ℤ} {a : Answer} (q i : ℕ) → m ≤ 5 → has_inverse word_modulus q ≡ true → Letter m i → Part m lent h
+pub inverse_taken : {m : ℕ} {lent h last : List ℕ} {z : ℤ} {a : Answered} (q i : ℕ) → m ≤ 5 → has_inverse word_modulus q ≡ true → Letter m i → Part m lent h
     → z ≡ neg_ℤ (pos i) → act_signed_word_call m q (z ∷ []) lent ≡ record { answer = a; lent = last }
     → let p = parameters_of q in let p' = inverse_parameters q in
     Took a last (inverse_letter ℕ (ring p) p.q p.r p'.q p'.r m i h) (3 * factorial (suc m) / 2)

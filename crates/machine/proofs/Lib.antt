@@ -4,4 +4,3 @@ mod Taken
 mod InverseTaken
 mod NegatedLetter
 pub mod Counted
-mod Unsized

@@ -2,14 +2,12 @@
 -- Overwrite.
 --
 --   Part m p h    the list p is h, an element of rank m
-use mathlib.Core.Path.{◌≡◌, sym, ap, ◌∙◌, subst}
+use mathlib.Core.Path.{◌≡◌, refl, sym, ap, ◌∙◌, subst}
 use mathlib.Core.List.{List, ◌++◌}
 use Prim.Native.Nat.{ℕ, suc, ◌+◌, ◌*◌, ◌-◌, ◌^◌, ◌≤◌, ◌<◌}
 use native.Mathlib.Omega.{arith}
-use lib.ListN.{length, get_or, take, drop, set, length-set, length-drop}
+use lib.ListN.{length, get_or, take, drop, set, length-set}
 use lib.Seq.{length-take-le, take-take, set-append_left, get_or-take, get_or-drop}
-use mir.Syntax.{w64}
-use mir.Val.{Fits}
 use borrow.Rule.Slice.PartMut.{mid_of, put_mid, Post-is, mid_len, set_mid_at}
 use Rattle.lists.specs.Numbers.{factorial}
 use Rattle.lists.specs.Overwrite.{overwrite}
@@ -26,6 +24,10 @@ use Rattle.machine.specs.Steps.{Registers}
 -- n is what `ranks::size` answers
 pub registers : {m n : ℕ} {x : List ℕ} → m ≤ 5 → length x ≡ 2880 → n ≡ size m → Registers m n x
 registers {m} low four is = record { low = low; whole = is ∙ size_is m (omega arith); four = four }
+
+-- the registers of rank m and M itself
+pub whole : {m : ℕ} {x : List ℕ} → m ≤ 5 → length x ≡ 2880 → Registers m (factorial (suc m)) x
+whole low four = record { low = low; whole = refl; four = four }
 
 -- ---- the list with h in register r
 
@@ -64,7 +66,7 @@ module _ {m size : ℕ} {x : List ℕ} (z : Registers m size x) where
     element_size = sym (ap length lent_is) ∙ lent_size
 
     -- it came back as h
-    pub back : {last h : List ℕ} → length last ≡ length (mid_of (720 * r) (720 * r + size - 720 * r) x) → last ≡ h
+    back : {last h : List ℕ} → length last ≡ length (mid_of (720 * r) (720 * r + size - 720 * r) x) → last ≡ h
         → put_mid (720 * r) (720 * r + size - 720 * r) x last ≡ put r h x
     unfolding overwrite
     back {last} {h} l e =
@@ -72,14 +74,18 @@ module _ {m size : ℕ} {x : List ℕ} (z : Registers m size x) where
         (Post-is (720 * r) (720 * r + size) x (omega arith) ∙ ap (λ n. drop (720 * r + n) x) (z.whole ∙ sym (l ∙ lent_size)))
         ∙ ap (λ v. put r v x) e
 
+    -- the same from `start` to `end`
+    module _ {start end : ℕ} (s : start ≡ 720 * r) (e : end ≡ 720 * r + size) where
+      pub lent_size_at : length (mid_of start (end - start) x) ≡ factorial (suc m)
+      lent_size_at = rw (s, e) lent_size
+
+      pub back_at : {last h : List ℕ} → length last ≡ length (mid_of start (end - start) x) → last ≡ h → put_mid start (end - start) x last ≡ put r h x
+      back_at = rw (s, e) back
+
     pub set_element : (i v : ℕ) → i < size → set x (720 * r + i) v ≡ put r (set (element m r x) i v) x
     set_element i v l =
         sym (set_mid_at (720 * r) (720 * r + size - 720 * r) i x v (omega (arith, z.whole, lent_size)))
         ∙ back (length-set (mid_of (720 * r) (720 * r + size - 720 * r) x) i v) (ap (λ h. set h i v) lent_is)
-
-    pub register_size : {d : List ℕ} → d ≡ register r x → length d ≡ 720
-    unfolding register
-    register_size e = ap length e ∙ length-take-le 720 (drop (720 * r) x) (omega (arith, length-drop (720 * r) x, z.four))
 
     pub words_element : ((i : ℕ) → i < length x → get_or x i 0 < 2 ^ 64) → Element (λ n. n < 2 ^ 64) m (element m r x)
     unfolding element
@@ -91,15 +97,18 @@ module _ {m size : ℕ} {x : List ℕ} (z : Registers m size x) where
           (word (720 * r + i) (omega (arith, inside, z.whole, element_size))));
     }
 
-    module _ (known : (i : ℕ) → Fits w64 (get_or x i 0)) where
-      pub lent : Part m (mid_of (720 * r) (720 * r + size - 720 * r) x) (element m r x)
-      lent = record { is = lent_is; fit = words_element (λ i l. (known i).fits) }
+    module _ (known : (i : ℕ) → get_or x i 0 < 2 ^ 64) where
+      lent : Part m (mid_of (720 * r) (720 * r + size - 720 * r) x) (element m r x)
+      lent = record { is = lent_is; fit = words_element (λ i l. known i) }
+
+      pub lent_at : {start end : ℕ} → start ≡ 720 * r → end ≡ 720 * r + size → Part m (mid_of start (end - start) x) (element m r x)
+      lent_at s e = rw (s, e) lent
 
       -- d is a copy of the register
-      pub copied : {d : List ℕ} → d ≡ register r x → Part m (take (size - 0) d) (element m r x)
+      pub copied : {d : List ℕ} {k : ℕ} → d ≡ register r x → k ≡ size → Part m (take k d) (element m r x)
       unfolding register element
-      copied {d} e =
-          let n : size - 0 ≡ factorial (suc m) = omega (arith, z.whole) in record {
+      copied {d} {k} e is =
+          let n : k ≡ factorial (suc m) = is ∙ z.whole in record {
             is = (λ i. take (n i) (e i)) ∙ take-take (factorial (suc m)) 720 (drop (720 * r) x) (omega (arith, small, z.whole));
-            fit = words_element (λ i l. (known i).fits);
+            fit = words_element (λ i l. known i);
           }

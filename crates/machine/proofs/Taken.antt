@@ -9,8 +9,7 @@ use native.Mathlib.Omega.{arith}
 use lib.ListN.{length}
 use Rattle.ring.specs.Modular.{words}
 use Rattle.lists.specs.Numbers.{factorial}
-use Rattle.refusals.specs.Refusals.{Outcome}
-use Rattle.refusals.specs.declared.Answer.{Answer}
+use Rattle.refusals.specs.Refusals.{Answered, verdict_of, count_of, Outcome}
 use Rattle.perms.specs.Permutation.{Word}
 use Rattle.algebra.specs.Element.{plus, scale}
 use Rattle.algebra.specs.Product.{act, times}
@@ -24,18 +23,18 @@ use Rattle.element_calls.proofs.Answers.{sum_lent, scale_lent, act_lent, act_cou
 use Rattle.element_calls.proofs.Demand3.{demand_3}
 use Rattle.machine.proofs.Put.{Part}
 
-pub record Took (a : Answer) (last new : List ℕ) (n : ℕ) : Type 0 where
+pub record Took (a : Answered) (last new : List ℕ) (n : ℕ) : Type 0 where
   pub taken : Taken a
   pub writes : last ≡ new
-  pub counts : a.count ≡ n
+  pub counts : count_of a ≡ n
 
 -- `result` of what is lent
-pub took : {A : Type 0} {o : Outcome Answer A} {a : Answer} {last : A} {new : List ℕ} {n : ℕ} (result : A → List ℕ)
-    → o ≡ record { answer = a; lent = last } → Taken o.answer → result o.lent ≡ new → o.answer.count ≡ n → Took a (result last) new n
+pub took : {A : Type 0} {o : Outcome Answered A} {a : Answered} {last : A} {new : List ℕ} {n : ℕ} (result : A → List ℕ)
+    → o ≡ record { answer = a; lent = last } → Taken o.answer → result o.lent ≡ new → count_of o.answer ≡ n → Took a (result last) new n
 took result e t w c = record {
-  taken = sym (ap (λ o. o.answer.verdict) e) ∙ t;
+  taken = sym (ap (λ o. verdict_of o.answer) e) ∙ t;
   writes = sym (ap (λ o. result o.lent) e) ∙ w;
-  counts = sym (ap (λ o. o.answer.count) e) ∙ c;
+  counts = sym (ap (λ o. count_of o.answer) e) ∙ c;
 }
 
 module _ {m : ℕ} (rank : m ≤ 5) where
@@ -43,7 +42,7 @@ module _ {m : ℕ} (rank : m ≤ 5) where
   unfolding modulus
   D q word = demand_3 m q (omega arith) word
 
-  pub act_taken : {lent h last : List ℕ} {a : Answer} (q : ℕ) (x : List ℕ) → q < 2 ^ 64 → Word m x → length x ≤ 4096 → Part m lent h
+  pub act_taken : {lent h last : List ℕ} {a : Answered} (q : ℕ) (x : List ℕ) → q < 2 ^ 64 → Word m x → length x ≤ 4096 → Part m lent h
       → act_word_call m q x lent ≡ record { answer = a; lent = last }
       → let p = parameters_of q in Took a last (act ℕ (ring p) p.q p.r m x h) (length x * (3 * factorial (suc m) / 2))
   unfolding modulus
@@ -52,7 +51,7 @@ module _ {m : ℕ} (rank : m ≤ 5) where
       took (λ l. l) (ap (act_word_call m q x) (sym f.is) ∙ e) t (act_lent m q x h t) (act_counted m q x h t)
 
   module _ (result : List ℕ) (size : length result ≡ factorial (suc m)) where
-    pub scale_taken : {p h last : List ℕ} {a : Answer} (c : ℕ) → Part m p h → scale_call m c p result ≡ record { answer = a; lent = last }
+    pub scale_taken : {p h last : List ℕ} {a : Answered} (c : ℕ) → Part m p h → scale_call m c p result ≡ record { answer = a; lent = last }
         → Took a last (scale ℕ words c h) (factorial (suc m))
     unfolding modulus
     scale_taken {h = h} c f e =
@@ -61,7 +60,7 @@ module _ {m : ℕ} (rank : m ≤ 5) where
         took (λ l. l) ((λ i. scale_call m c (sym f.is i) result) ∙ e) t (scale_lent m c h result t) (d.scale_count c h result t)
 
     module _ {left right h g : List ℕ} (f : Part m left h) (k : Part m right g) where
-      pub sum_taken : {last : List ℕ} {a : Answer} → sum_call m left right result ≡ record { answer = a; lent = last }
+      pub sum_taken : {last : List ℕ} {a : Answered} → sum_call m left right result ≡ record { answer = a; lent = last }
           → Took a last (plus ℕ words h g) (factorial (suc m))
       unfolding modulus
       sum_taken e =
@@ -69,7 +68,7 @@ module _ {m : ℕ} (rank : m ≤ 5) where
           let t = d.sum_taken h g result f.fit k.fit size in
           took (λ l. l) ((λ i. sum_call m (sym f.is i) (sym k.is i) result) ∙ e) t (sum_lent m h g result t) (d.sum_count h g result t)
 
-      pub product_taken : {last : Buffers} {a : Answer} (q : ℕ) (scratch : List ℕ) → q < 2 ^ 64 → 7920 ≤ length scratch
+      pub product_taken : {last : Buffers} {a : Answered} (q : ℕ) (scratch : List ℕ) → q < 2 ^ 64 → 7920 ≤ length scratch
           → product_call m q left right result scratch ≡ record { answer = a; lent = last }
           → let p = parameters_of q in Took a last.result (times ℕ (ring p) p.q p.r m m h g) (C m m)
       unfolding modulus

@@ -8,7 +8,7 @@
 use Rattle.std.specs.Prelude.{◌≡◌, true, List, [], ◌∷◌, ℕ, suc, ◌^◌, ◌<◌, length, pos, neg_ℤ}
 use Rattle.lists.specs.Lists.{All}
 use Rattle.lists.specs.Numbers.{factorial}
-use Rattle.refusals.specs.declared.Answer.{Answer}
+use Rattle.refusals.specs.Refusals.{Answered, count_of}
 use Rattle.element_calls.specs.Calls.{sum_call, scale_call, act_word_call, act_signed_word_call, product_call}
 use Rattle.element_calls.specs.Claims.{Taken}
 use Rattle.sheet_format.specs.declared.Header.{Header}
@@ -24,9 +24,9 @@ use Rattle.machine.specs.Step.{obey}
 abbrev pub Words : List ℕ → Type 0
 Words x = All (λ n. n < 2 ^ 64) x
 
-pub record Obeying (h : Header) (x : List ℕ) (c : Command) (a : Answer) (y : List ℕ) : Type 0 where
+pub record Obeying (h : Header) (x : List ℕ) (c : Command) (a : Answered) (y : List ℕ) : Type 0 where
   pub taken : Taken a
-  pub counts : cost h.rank c ≡ a.count
+  pub counts : cost h.rank c ≡ count_of a
   pub makes : obey h c x ≡ y
 
 pub record Counts (h : Header) (x old scratch : List ℕ) : Type 0 where

@@ -2,14 +2,14 @@
 --
 --   updated h u x        the words of the registers after the update u, in a sheet that begins with the header h
 --   obey h c x           the same after any command
+--   not_obeyed           the answer where a command is not obeyed
 --   step_report a        number, place and count of an answer: neither document has a number for a command that is not obeyed
 --   step_call h c x      one command on lent registers: the answer with the count, and the registers; nothing is done where an operand is out of range,
 --                        where an inverse letter stands and q has no inverse, or where the registers are not 4 × 720 words
-use Rattle.std.specs.Prelude.{cond, ◌&&◌, List, [], ◌∷◌, ℕ, length, set}
+use Rattle.std.specs.Prelude.{cond, ◌&&◌, List, [], ◌∷◌, ℕ, length, set, Result, Ok, Err}
 use Rattle.ring.specs.Modular.{words}
 use Rattle.lists.specs.Lists.{same}
 use Rattle.refusals.specs.Refusals.{Report, reported, Outcome}
-use Rattle.refusals.specs.declared.Verdict.TheVariants.{Accepted}
 use Rattle.algebra.specs.Element.{plus, scale, unit}
 use Rattle.algebra.specs.Product.{act, times}
 use Rattle.signed_words.specs.InverseLetter.{inverse_letter}
@@ -22,8 +22,7 @@ use Rattle.sheet_format.specs.declared.Command.TheVariants.{End, Begin, Change, 
 use Rattle.operands.specs.Operands.{may_run}
 use Rattle.costs.specs.Costs.{cost}
 use Rattle.machine.specs.Registers.{element, put, zeros}
-use Rattle.machine.specs.declared.Stepped.{Stepped}
-use Rattle.machine.specs.declared.Stepped.TheVariants.{Obeyed, NotObeyed}
+use Rattle.machine.specs.declared.NotObeyed.{NotObeyed}
 
 unfoldable pub updated : Header → Update → List ℕ → List ℕ
 updated h (Unit r) x = put r (unit ℕ words h.rank) x
@@ -45,12 +44,15 @@ obey h (Begin b) x = let z = zeros h.rank in put 3 z (put 2 z (put 1 z (put 0 z 
 obey h (Change u) x = updated h u x
 obey h (Show w) x = x
 
-abbrev pub step_report : Stepped → Report
-step_report (Obeyed n) = reported Accepted n
-step_report NotObeyed = reported Accepted 0
+abbrev pub not_obeyed : {A : Type 0} → Result A NotObeyed
+not_obeyed = Err (record {})
 
-unfoldable pub step_call : Header → Command → List ℕ → Outcome Stepped (List ℕ)
+abbrev pub step_report : Result ℕ NotObeyed → Report
+step_report (Ok n) = reported (Ok tt) n
+step_report (Err e) = reported (Ok tt) 0
+
+unfoldable pub step_call : Header → Command → List ℕ → Outcome (Result ℕ NotObeyed) (List ℕ)
 step_call h c x =
     cond (may_run h c && same (length x) 2880)
-    (record { answer = Obeyed (cost h.rank c); lent = obey h c x })
-    (record { answer = NotObeyed; lent = x })
+    (record { answer = Ok (cost h.rank c); lent = obey h c x })
+    (record { answer = not_obeyed; lent = x })

@@ -33,6 +33,11 @@ use Rattle.output.specs.Text.{digits, decimal, pair_line, line, tagged_pair, coe
 use Rattle.output.specs.Printed.{shown, text, texts, printed}
 use Rattle.marked.specs.Table.{Holds, table}
 
+-- a row of the table, and the rows after it
+infixr 30 ◌and◌
+◌and◌ : {A B : Type 0} → A → B → A × B
+a and b = (a, b)
+
 pub marked : All Holds table
 unfolding modular same less range first tally product identity swap generator of_word below len above entry tower_of cycle of_cycles
     images_of descent first_letters shortest_word factorial series block blocks place join perms coefficient element plus scale sum_over basis unit minus_one letter
@@ -41,61 +46,28 @@ unfolding modular same less range first tally product identity swap generator of
     byte number command-row decode header in_order is_register update_in_range query_in_range operands_in_range in_range invertible may_run placed_from placed commands
     first_refusal check_sheet register register-element overwrite zeros updated obey update_cost cost obey_all run_sheet begin_call fits obeys turn_call turns
     digits decimal pair_line line tagged_pair coefficients shown text texts printed ended
-marked = (
-  (refl, refl),
-  (
-    (refl, refl),
-    (
-      (refl, refl, refl, refl),
-      (
-        (refl, refl, refl, refl),
-        (
-          (refl, refl, refl, refl),
-          (
-            (refl, refl, refl),
-            (
-              (refl, refl, refl),
-              (
-                (refl, refl, refl),
-                (
-                  (refl, refl, refl),
-                  (
-                    refl,
-                    (
-                      refl,
-                      (
-                        refl,
-                        (
-                          refl,
-                          (
-                            (refl, refl, refl),
-                            (
-                              (refl, refl, refl, refl),
-                              (
-                                (refl, refl, refl),
-                                (
-                                  (refl, refl, refl),
-                                  (
-                                    refl,
-                                    (
-                                      (refl, refl),
-                                      ((refl, refl), ((refl, refl), ((refl, refl), (refl, tt)))),
-                                    ),
-                                  ),
-                                ),
-                              ),
-                            ),
-                          ),
-                        ),
-                      ),
-                    ),
-                  ),
-                ),
-              ),
-            ),
-          ),
-        ),
-      ),
-    ),
-  ),
-)
+marked =
+    (refl, refl)
+    and (refl, refl)
+    and (refl, refl, refl, refl)
+    and (refl, refl, refl, refl)
+    and (refl, refl, refl, refl)
+    and (refl, refl, refl)
+    and (refl, refl, refl)
+    and (refl, refl, refl)
+    and (refl, refl, refl)
+    and refl
+    and refl
+    and refl
+    and refl
+    and (refl, refl, refl)
+    and (refl, refl, refl, refl)
+    and (refl, refl, refl)
+    and (refl, refl, refl)
+    and refl
+    and (refl, refl)
+    and (refl, refl)
+    and (refl, refl)
+    and (refl, refl)
+    and refl
+    and tt

@@ -8,13 +8,11 @@
 --               by turns, and what is printed for it; a pairing, the coefficient of the unit in the product, and the word that the call for the
 --               pairing gives; a trace, and the word that the call for the trace gives, with the scratch that it leaves
 --   table       the marked cases, in the documents' order, and the first traces
-use Rattle.std.specs.Prelude.{◌≡◌, List, [], ◌∷◌, ◌++◌, map, ℕ, suc, ◌+◌, ◌-◌, ◌^◌, length, replicate}
+use Rattle.std.specs.Prelude.{◌≡◌, List, [], ◌∷◌, ◌++◌, map, ℕ, suc, ◌+◌, ◌-◌, ◌^◌, length, replicate, None, Ok}
 use Rattle.ring.specs.Modular.{words}
 use Rattle.lists.specs.Lists.{range}
 use Rattle.lists.specs.Numbers.{factorial}
-use Rattle.refusals.specs.Refusals.{accepted, Outcome}
-use Rattle.refusals.specs.declared.Answer.{Answer}
-use Rattle.refusals.specs.declared.Verdict.TheVariants.{Accepted}
+use Rattle.refusals.specs.Refusals.{Answered, accepted, Outcome}
 use Rattle.perms.specs.Permutation.{identity, of_word}
 use Rattle.perms.specs.Tower.{tower_of, images_of}
 use Rattle.algebra.specs.Place.{place, perms}
@@ -29,8 +27,6 @@ use Rattle.element_calls.specs.Calls.{Buffers, product_call, pairing_call, trace
 use Rattle.sheet_format.specs.Format.{header}
 use Rattle.runner.specs.Run.{given, run_sheet}
 use Rattle.runner.specs.Turn.{first, begin_call, turns}
-use Rattle.runner.specs.declared.Turned.TheVariants.{Ended}
-use Rattle.runner.specs.declared.Begun.TheVariants.{Ready}
 use Rattle.output.specs.Printed.{printed}
 
 pub data Case : Type 0 where
@@ -58,7 +54,7 @@ abbrev basis_of : ℕ → List ℕ → List ℕ
 basis_of m x = basis ℕ words m (of_word m x)
 
 -- the product call on a slice that holds 7s, with scratch of 7s that is one word longer than needed
-abbrev called : (m q : ℕ) (h g : List ℕ) → Outcome Answer Buffers
+abbrev called : (m q : ℕ) (h g : List ℕ) → Outcome Answered Buffers
 called m q h g = product_call m q h g (replicate (factorial (suc m)) 7) (replicate (needed m + 1) 7)
 
 -- registers in which the words h stand first, and then zeros
@@ -79,18 +75,18 @@ Holds (count m l n) =
     × (operations (nested ℕ words 3 2 falling m l (unit ℕ words m) (unit ℕ words l)).count ≡ n)
 Holds (answered m n) = (called m 3 (unit ℕ words m) (unit ℕ words m)).answer ≡ accepted n
 Holds (run s h n t) =
-    (run_sheet s ≡ given Accepted (record { contents = registers_of h; count = n }))
-    × (begin_call s ≡ Ready (header s) first)
-    × (turns (length s) s (header s) first (registers_of []) ≡ record { cursor = record { at = length s - 1; count = n }; last = Ended; contents = registers_of h })
+    (run_sheet s ≡ given (Ok tt) (record { contents = registers_of h; count = n }))
+    × (begin_call s ≡ Ok (header s, first))
+    × (turns (length s) s (header s) first (registers_of []) ≡ record { cursor = record { at = length s - 1; count = n }; last = Ok None; contents = registers_of h })
     × (printed s ≡ t)
 Holds (paired m q x y n) =
     (pairing ℕ words q m (basis_of m x) (basis_of m y) ≡ n)
     × (coefficient ℕ words (times ℕ words q (minus_one ℕ words q) m m (basis_of m x) (basis_of m y)) (identity m) ≡ n)
-    × (pairing_call m q (basis_of m x) (basis_of m y) ≡ record { verdict = Accepted; value = n })
+    × (pairing_call m q (basis_of m x) (basis_of m y) ≡ Ok n)
 Holds (traced m q z x n) =
     (trace ℕ words q (minus_one ℕ words q) z m (basis_of m x) ≡ n)
     × (trace_call m q z (basis_of m x) (replicate (needed m + 1) 7)
-    ≡ record { answer = record { verdict = Accepted; value = n }; lent = replicate (needed m) 0 ++ (7 ∷ []) })
+    ≡ record { answer = Ok n; lent = replicate (needed m) 0 ++ (7 ∷ []) })
 Holds (prints s t) = printed s ≡ t
 
 abbrev pub table : List Case

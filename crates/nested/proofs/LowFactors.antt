@@ -1,6 +1,6 @@
 -- A right factor of rank 0 or 1: h g is g_0 h, or (g_1 h) T_1 + g_0 h. Rests on Summands, cycles' LowCycles and
 -- block_loops' Fits.
-use mathlib.Core.Path.{◌≡◌, refl, sym, ap, ap₂, subst, ◌∙◌}
+use mathlib.Core.Path.{◌≡◌, refl, sym, ap, ap₂, ◌∙◌}
 use mathlib.Core.List.{List}
 use Prim.Native.Nat.{ℕ, zero, suc, ◌+◌, ◌*◌}
 use native.Mathlib.Omega.{arith}
@@ -21,7 +21,7 @@ use Rattle.block_loops.proofs.Fits.{multiple_fits}
 use Rattle.letters.specs.Letters.{letter_in, LetterPre}
 use Rattle.cycles.specs.Steps.{sums, acted}
 use Rattle.cycles.proofs.LowCycles.{acted_none, letter_acted}
-use Rattle.nested.specs.Steps.{multiplied, FactorsPre, TimesPre}
+use Rattle.nested.specs.Steps.{multiplied, FactorsPre}
 use Rattle.nested.proofs.Summands.{multiplied_suc}
 
 -- ---- of rank 0
@@ -54,13 +54,6 @@ multiplied_one p m h g =
     let multiple : (k : ℕ) → multiplied p m 0 h (block 1 k g) ≡ scale ℕ (ring p) (get_or g k 0) h =
     λ k. sym (multiplied_zero p m 0 h (block 1 k g) refl) ∙ ap (λ (c : ℕ). scale ℕ (ring p) c h) (first_word k g) in
     multiplied_suc p m 0 h g ∙ ap₂ (plus ℕ (ring p)) (ap (acted p m 1 1) (multiple 1)) (acted_none p m 1 _ ∙ multiple 0)
-
-module _ {m l : ℕ} {result scratch h g : List ℕ} (one : l ≡ 1) (c : TimesPre m l result scratch h g) where
-  pub one_pre : FactorsPre m 1 result h g
-  one_pre = subst (λ (n : ℕ). FactorsPre m n result h g) one c.factors
-
-  pub one_end : (p : Parameters) {y : List ℕ} → y ≡ multiplied p m 1 h g → y ≡ multiplied p m l h g
-  one_end p e = e ∙ ap (λ (n : ℕ). multiplied p m n h g) (sym one)
 
 module _ {m : ℕ} {result h g : List ℕ} (c : FactorsPre m 1 result h g) where
   letter_pre : {y : List ℕ} → length y ≡ length result → LetterPre m 1 y

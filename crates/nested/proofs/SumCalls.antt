@@ -31,6 +31,3 @@ module _ {m l s n : ℕ} {result₀ scratch₀ h g : List ℕ} (c : TimesPre m l
 
   pub sum_fits : s ≤ length scratch
   sum_fits = omega (arith, scratch_fits)
-
-  pub finish_pre : length result ≤ length scratch
-  finish_pre = omega (arith, sum_fits, er, c.factors.result, es)

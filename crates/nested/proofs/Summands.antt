@@ -76,18 +76,19 @@ module _ (s : ℕ) (x y v : List ℕ) (ey : length y ≡ s) (fits : s ≤ length
 
 -- the summand l is in y, and is copied
 pub summing_first : {p : Parameters} {m l s n : ℕ} {h g scratch y x v : List ℕ} → LayerPost p m (l - 1) l s n h g scratch y x → 1 ≤ l
-    → length y ≡ s → s ≤ length x → length v ≡ length (take (s - 0) x) → v ≡ load_into (take (s - 0) x) y 0
-    → let z = put_mid 0 (s - 0) x v in Summing p s l (summand p m (l - 1) n h g) y y z z 1
+    → length y ≡ s → s ≤ length x → length v ≡ length (take (s - 0) x) → v ≡ load_into (take (s - 0) x) y 0 → {i : ℕ} → i ≡ 1
+    → let z = put_mid 0 (s - 0) x v in Summing p s l (summand p m (l - 1) n h g) y y z z i
 unfolding sums sum_by onto
-summing_first {p} {m} {l} {s} {n} {h} {g} {y = y} {x} {v} c some ey fits ev e =
+summing_first {p} {m} {l} {s} {n} {h} {g} {y = y} {x} {v} c some ey fits ev e one =
     let f : ℕ → List ℕ = summand p m (l - 1) n h g in
     record {
       some = omega arith;
-      within = some;
+      within = omega arith;
       same_result = refl;
       same_scratch = refl;
       sum = first_words s x y v ey fits ev ∙ e ∙ load_whole (take (s - 0) x) y (one_size s x y v ey fits ev) ∙ c.value ∙ ap f (sym (sub-zero l))
-          ∙ ap (λ (u : List ℕ). sums p u f) (first_next l 0 zero-le);
+          ∙ ap (λ (u : List ℕ). sums p u f) (first_next l 0 zero-le)
+          ∙ ap (λ (a : ℕ). sums p (take a (falling l)) f) (sym one);
     }
 
 -- the summand k is in y
@@ -103,15 +104,16 @@ module _ {p : Parameters} {m l s n i k : ℕ} {h g result₀ result scratch₀ s
       ∙ ap (λ (u : List ℕ). sums p u f) (first_next l i t.within)
 
   pub summing_more : {v : List ℕ} → i + 1 ≤ l → length x ≡ length scratch → s ≤ length x → length v ≡ length (take (s - 0) x)
-      → v ≡ add_to p (take (s - 0) x) y → Summing p s l f result₀ y scratch₀ (put_mid 0 (s - 0) x v) (i + 1)
-  summing_more {v} next ex fits ev e =
+      → v ≡ add_to p (take (s - 0) x) y → {i' : ℕ} → i' ≡ i + 1 → Summing p s l f result₀ y scratch₀ (put_mid 0 (s - 0) x v) i'
+  summing_more {v} next ex fits ev e ei =
       record {
         some = omega arith;
-        within = next;
+        within = omega arith;
         same_result = ey ∙ t.same_result;
         same_scratch = same_len_mid 0 (s - 0) x v ev ∙ ex ∙ t.same_scratch;
         sum = first_words s x y v (ey ∙ es) fits ev ∙ e ∙ add_fits p (take (s - 0) x) y (one_size s x y v (ey ∙ es) fits ev)
-            ∙ ap (λ (a : ℕ). plus ℕ (ring p) (take a x) y) (sub-zero s) ∙ with_next;
+            ∙ ap (λ (a : ℕ). plus ℕ (ring p) (take a x) y) (sub-zero s) ∙ with_next
+            ∙ ap (λ (a : ℕ). sums p (take a (falling l)) f) (sym ei);
       }
 
   -- it is the last one

@@ -24,6 +24,7 @@ pub fn product(res: &mut [u64], scratch: &mut [u64], h: &[u64], g: &[u64], m: us
 }
 
 // Whether h, g and out are the numbers of words of elements of rank m, at most 6, and n words of scratch suffice.
+#[tactic(auto, using(ranks::proofs::Sizes::size_is, crate::proofs::Fits::scratch_small), unfolding(crate::specs::InPlace::product_fits, lists::specs::Lists::same, lists::specs::Lists::less))]
 fn product_fits(m: usize, h: usize, g: usize, out: usize, n: usize) -> bool
     ensures { result ≡ product_fits m h g out n }
 {
@@ -31,17 +32,5 @@ fn product_fits(m: usize, h: usize, g: usize, out: usize, n: usize) -> bool
         return false;
     }
     let size = ranks::size(m);
-    if h != size {
-        return false;
-    }
-    if g != size {
-        return false;
-    }
-    if out != size {
-        return false;
-    }
-    if n < m * size {
-        return false;
-    }
-    true
+    h == size && g == size && out == size && m * size <= n
 }

@@ -1,60 +1,50 @@
-// What is judged of one command of a sheet: whether its operands are in range, and whether q has an inverse if it needs one.
+// What is judged of one command of a sheet: whether its operands are in range, and whether q has an inverse if it needs one. The rank is a
+// plain number, as it stands in the sheet.
 
 #![tactic(auto)]
 
-ghost use Rattle.std.specs.Prelude.{◌≡◌, not, ◌&&◌, ◌||◌, ◌≤◌};
+ghost use Rattle.std.specs.Prelude.{◌≡◌, not, ◌||◌, ◌≤◌};
 ghost use Rattle.lists.specs.Lists.{same, less};
-ghost use Rattle.sheet_format.specs.declared.Command.TheVariants.{Change};
 ghost use Rattle.operands.specs.Operands.{is_register, update_in_range, query_in_range, operands_in_range, in_range, invertible, may_run};
 
 use sheet_format::{Command, Header, Query, Update};
 
 #[tactic(auto, unfolding(crate::specs::Operands::is_register, lists::specs::Lists::less))]
-fn three_registers(d: usize, a: usize, b: usize) -> bool
-    ensures { result ≡ (is_register d && is_register a && is_register b) }
+fn is_register(r: usize) -> bool
+    ensures { result ≡ is_register r }
 {
-    d < 4 && a < 4 && b < 4
-}
-
-#[tactic(auto, unfolding(crate::specs::Operands::is_register, lists::specs::Lists::less))]
-fn two_registers(a: usize, b: usize) -> bool
-    ensures { result ≡ (is_register a && is_register b) }
-{
-    a < 4 && b < 4
+    r < 4
 }
 
 #[tactic(auto, unfolding(lists::specs::Lists::same, lists::specs::Lists::less))]
 fn is_letter(m: usize, i: u8) -> bool
     ensures { result ≡ not (same i 0 || less m i) }
 {
-    i != 0 && i as usize <= m
+    i != 0 && usize::from(i) <= m
 }
 
-#[tactic(auto, unfolding(crate::specs::Operands::update_in_range, crate::specs::Operands::is_register, lists::specs::Lists::less))]
+#[tactic(auto, using(ranks::proofs::Sizes::size_is), unfolding(crate::specs::Operands::update_in_range, lists::specs::Lists::less))]
 fn update_in_range(m: usize, update: Update) -> bool
     requires { m ≤ 6 }
     ensures { result ≡ update_in_range m update }
 {
     match update {
-        Update::Unit(r) => r < 4,
-        Update::Set(r, i, _) => r < 4 && i < ranks::size(m),
-        Update::Letter(r, i) => r < 4 && is_letter(m, i),
-        Update::InverseLetter(r, i) => r < 4 && is_letter(m, i),
-        Update::Product(d, a, b) => three_registers(d, a, b),
-        Update::Sum(d, a, b) => three_registers(d, a, b),
-        Update::Scale(r, _) => r < 4,
+        Update::Unit(r) | Update::Scale(r, _) => is_register(r),
+        Update::Set(r, i, _) => is_register(r) && i < ranks::size(m),
+        Update::Letter(r, i) | Update::InverseLetter(r, i) => is_register(r) && is_letter(m, i),
+        Update::Product(d, a, b) | Update::Sum(d, a, b) => is_register(d)
+            && is_register(a)
+            && is_register(b),
     }
 }
 
-#[tactic(auto, unfolding(crate::specs::Operands::query_in_range, crate::specs::Operands::is_register, lists::specs::Lists::less))]
+#[tactic(auto, unfolding(crate::specs::Operands::query_in_range))]
 fn query_in_range(query: Query) -> bool
     ensures { result ≡ query_in_range query }
 {
     match query {
-        Query::Register(r) => r < 4,
-        Query::Pairing(a, b) => two_registers(a, b),
-        Query::Equality(a, b) => two_registers(a, b),
-        Query::Trace(r, _) => r < 4,
+        Query::Register(r) | Query::Trace(r, _) => is_register(r),
+        Query::Pairing(a, b) | Query::Equality(a, b) => is_register(a) && is_register(b),
     }
 }
 
@@ -78,25 +68,7 @@ fn operands_in_range(m: usize, command: Command) -> bool
 pub fn in_range(m: usize, command: Command) -> bool
     ensures { result ≡ in_range m command }
 {
-    if 5 < m {
-        return false;
-    }
-    operands_in_range(m, command)
-}
-
-#[tactic(auto, unfolding(crate::specs::Operands::invertible))]
-fn update_invertible(q: u64, update: Update) -> bool
-    ensures { result ≡ invertible q (Change update) }
-{
-    match update {
-        Update::Unit(_) => true,
-        Update::Set(_, _, _) => true,
-        Update::Letter(_, _) => true,
-        Update::InverseLetter(_, _) => inverses::has_inverse(q),
-        Update::Product(_, _, _) => true,
-        Update::Sum(_, _, _) => true,
-        Update::Scale(_, _) => true,
-    }
+    m <= 5 && operands_in_range(m, command)
 }
 
 // Whether q has an inverse modulo 2^64 if the command needs one.
@@ -106,10 +78,8 @@ pub fn invertible(q: u64, command: Command) -> bool
     ensures { result ≡ invertible q command }
 {
     match command {
-        Command::End => true,
-        Command::Begin(_) => true,
-        Command::Change(update) => update_invertible(q, update),
-        Command::Show(_) => true,
+        Command::Change(Update::InverseLetter(..)) => inverses::has_inverse(q),
+        _ => true,
     }
 }
 

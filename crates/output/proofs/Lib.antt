@@ -3,10 +3,9 @@ pub mod Decimal
 pub mod ReadBack
 pub mod LineLengths
 -- what the functions write
-mod Overwritten
+mod Putting
 mod Listing
-mod EqualWords
--- the calls
-mod Lent
-pub mod Front
 pub mod TextLengths
+mod EqualWords
+mod Values
+pub mod Front

@@ -28,18 +28,18 @@ length_line tag a = simp length-append (omega arith)
 pub digit_line : (tag a : ℕ) → a < 10 → length (line tag a) ≡ 4
 digit_line tag a h = omega (arith, length_line tag a, length_digit a h)
 
-pub length_tagged_pair : (tag a b : ℕ) → length (tagged_pair tag a b) ≡ length (pair_line a b) + 2
+pub length_tagged_pair : (tag a b : ℕ) → length (tagged_pair tag a b) ≡ length (decimal a) + length (decimal b) + 4
 unfolding tagged_pair
-length_tagged_pair tag a b = omega arith
+length_tagged_pair tag a b = omega (arith, length_pair_line a b)
 
 pub line_short : (tag a : ℕ) → a < 2 ^ 64 → length (line tag a) ≤ 23
 line_short tag a h = omega (arith, length_line tag a, word_short a h)
 
 pub tagged_pair_short : (tag a b : ℕ) → a < 2 ^ 64 → b < 2 ^ 64 → length (tagged_pair tag a b) ≤ 44
-tagged_pair_short tag a b h l = omega (arith, length_tagged_pair tag a b, length_pair_line a b, word_short a h, word_short b l)
+tagged_pair_short tag a b h l = omega (arith, length_tagged_pair tag a b, word_short a h, word_short b l)
 
 pub error_short : (tag a b : ℕ) → a < 100 → b < 2 ^ 64 → length (tagged_pair tag a b) ≤ error_room
-error_short tag a b h l = omega (arith, length_tagged_pair tag a b, length_pair_line a b, decimal_short 1 a h, word_short b l)
+error_short tag a b h l = omega (arith, length_tagged_pair tag a b, decimal_short 1 a h, word_short b l)
 
 pub coefficients_short : (i : ℕ) (h : List ℕ) → i + length h ≤ 720 → All (λ x. x < 2 ^ 64) h → length (coefficients i h) ≤ 25 * length h
 unfolding coefficients

@@ -1,6 +1,6 @@
--- A loop that writes the nonzero coefficients of a list one after another. Rests on Overwritten, LineLengths and lists' Test.
+-- A loop that puts the nonzero coefficients of a list one after another. Rests on Putting, LineLengths and lists' Test.
 --
---   Listed at h t u next i   the lines of the first i coefficients of h are written over t, from index at on, which gave u
+--   Listed h t u i   u is the text t with the lines of the first i coefficients of h put after it; there is room for all of them
 use mathlib.Core.Path.{◌≡◌, sym, ap, ◌∙◌, subst}
 use mathlib.Core.Logic.{◌≢◌}
 use mathlib.Core.Bool.{cond}
@@ -10,12 +10,13 @@ use native.Mathlib.Nat.{add-zero}
 use native.Mathlib.Numerals.{add-one}
 use native.Mathlib.Omega.{arith}
 use lib.ListN.{length, get_or, take, drop, length-append, take-append-drop}
-use lib.Seq.{length-take-le, take-suc, take_all}
+use lib.Seq.{length-take-le, take-suc}
 use Rattle.lists.specs.Lists.{same, All}
 use Rattle.lists.proofs.Test.{same_yes, same_no}
+use Rattle.output.specs.declared.lines.Text.{Text}
 use Rattle.output.specs.Text.{pair_line, coefficients}
-use Rattle.output.specs.Steps.{Overwritten}
-use Rattle.output.proofs.Overwritten.{overwritten_none, overwritten_more, overwritten_size}
+use Rattle.output.specs.Steps.{Room, Puts}
+use Rattle.output.proofs.Putting.{puts_none, puts_then}
 use Rattle.output.proofs.LineLengths.{coefficients_short}
 
 coefficients_append : (i : ℕ) (h g : List ℕ) → coefficients i (h ++ g) ≡ coefficients i h ++ coefficients (i + length h) g
@@ -31,21 +32,22 @@ coefficients_append i (x ∷ h) g =
     shift = omega arith
 
 -- one coefficient
-pub coefficient_zero : (i : ℕ) {x : ℕ} → x ≡ 0 → coefficients i (x ∷ []) ≡ []
+coefficient_zero : (i : ℕ) {x : ℕ} → x ≡ 0 → coefficients i (x ∷ []) ≡ []
 unfolding coefficients
 coefficient_zero i e = rw (same_yes e)
 
-pub coefficient_line : (i : ℕ) {x : ℕ} → x ≢ 0 → coefficients i (x ∷ []) ≡ pair_line i x
+coefficient_line : (i : ℕ) {x : ℕ} → x ≢ 0 → coefficients i (x ∷ []) ≡ pair_line i x
 unfolding coefficients
 coefficient_line i {x} n = rw (same_no n) (append-nil (pair_line i x))
 
-pub record Listed (at : ℕ) (h t u : List ℕ) (next i : ℕ) : Type 0 where
-  pub fits : at + length (coefficients 0 h) ≤ length t
-  pub written : Overwritten at (coefficients 0 (take i h)) t u next
+pub record Listed (h : List ℕ) (t u : Text) (i : ℕ) : Type 0 where
+  pub fits : Room (length (coefficients 0 h)) t
+  pub written : Puts (coefficients 0 (take i h)) t u
 
-pub listed_none : {at : ℕ} {h t : List ℕ} → length h ≤ 720 → All (λ x. x < 2 ^ 64) h → at + 25 * length h ≤ length t → Listed at h t t at 0
+pub listed_none : {h : List ℕ} {t : Text} → length h ≤ 720 → All (λ x. x < 2 ^ 64) h → Room (25 * length h) t → Listed h t t 0
 unfolding coefficients
-listed_none {at} {h} {t} few each large = record { fits = omega (arith, coefficients_short 0 h (omega arith) each); written = overwritten_none at t }
+listed_none {h} {t} few each large =
+    record { fits = record { within = omega (arith, large.within, coefficients_short 0 h (omega arith) each) }; written = puts_none t (omega (arith, large.within)) }
 
 next_line : (h : List ℕ) (i : ℕ) → i < length h → coefficients 0 (take (i + 1) h) ≡ coefficients 0 (take i h) ++ coefficients i (get_or h i 0 ∷ [])
 next_line h i l =
@@ -61,19 +63,29 @@ part_shorter h i = omega (
   simp length-append at (ap length (sym (coefficients_append 0 (take i h) (drop i h)) ∙ ap (coefficients 0) (take-append-drop i h))),
 )
 
-module _ {at : ℕ} {h t u : List ℕ} {next i : ℕ} (a : Listed at h t u next i) where
-  pub listed_size : length u ≡ length t
-  listed_size = overwritten_size a.written (omega (arith, a.fits, part_shorter h i))
-
-  pub listed_room : i < length h → next + length (coefficients i (get_or h i 0 ∷ [])) ≤ length u
-  listed_room l =
-      omega (arith, listed_size, a.fits, a.written.ends, part_shorter h (i + 1), simp length-append at (ap length (next_line h i l)))
-
-  pub listed_more : {v : List ℕ} {j : ℕ} → i < length h → Overwritten next (coefficients i (get_or h i 0 ∷ [])) u v j → Listed at h t v j (i + 1)
-  listed_more {v} {j} l b = record {
+module _ {h : List ℕ} {t u : Text} {i : ℕ} (a : Listed h t u i) where
+  more : {v : Text} → i < length h → Puts (coefficients i (get_or h i 0 ∷ [])) u v → Listed h t v (i + 1)
+  more {v} l b = record {
     fits = a.fits;
-    written = subst (λ x. Overwritten at x t v j) (sym (next_line h i l)) (overwritten_more a.written b (omega (arith, a.fits)));
+    written = subst (λ x. Puts x t v) (sym (next_line h i l)) (puts_then a.written b);
   }
 
-  pub listed_all : length h ≤ i → Overwritten at (coefficients 0 h) t u next
-  listed_all l = subst (λ x. Overwritten at (coefficients 0 x) t u next) (take_all i h l) a.written
+  pub listed_zero : i < length h → get_or h i 0 ≡ 0 → Listed h t u (i + 1)
+  listed_zero l e = more l (rw (coefficient_zero i e) (puts_none u a.written.within))
+
+  module _ (l : i < length h) (n : get_or h i 0 ≢ 0) where
+    pub listed_room : Room (length (pair_line i (get_or h i 0))) u
+    listed_room = record {
+      within = omega (
+        arith,
+        a.fits.within,
+        a.written.ends,
+        a.written.room,
+        part_shorter h (i + 1),
+        simp length-append at (ap length (next_line h i l)),
+        ap length (coefficient_line i n),
+      );
+    }
+
+    pub listed_more : {v : Text} → Puts (pair_line i (get_or h i 0)) u v → Listed h t v (i + 1)
+    listed_more b = more l (rw (coefficient_line i n) b)

@@ -12,25 +12,21 @@
 --   text_call s x h k buffer   what the next command of the sheet s prints, where x holds the registers: nothing for a buffer with less than the room, and
 --                              for registers of another size than 4 × 720 words
 --   error_call why buffer      the line of a refusal: nothing for a buffer with less than its room
-use Rattle.std.specs.Prelude.{cond, not, ◌&&◌, List, [], ◌∷◌, ◌++◌, ℕ, length}
+use Rattle.std.specs.Prelude.{Ok, Err, cond, not, ◌&&◌, List, [], ◌∷◌, ◌++◌, ℕ, length}
 use Rattle.ring.specs.Modular.{words}
 use Rattle.lists.specs.Lists.{same, less, bit, equal}
 use Rattle.lists.specs.Overwrite.{overwrite}
-use Rattle.refusals.specs.Refusals.{refusal_number, refusal_place, Outcome}
+use Rattle.refusals.specs.Refusals.{Verdict, refusal_number, refusal_place, Outcome}
 use Rattle.refusals.specs.declared.Refusal.{Refusal}
-use Rattle.refusals.specs.declared.Verdict.{Verdict}
-use Rattle.refusals.specs.declared.Verdict.TheVariants.{Accepted, Refused}
 use Rattle.algebra.specs.Product.{minus_one}
 use Rattle.algebra.specs.Pairing.{pairing}
 use Rattle.markov_trace.specs.Trace.{trace}
-use Rattle.sheet_format.specs.Format.{decode, header}
+use Rattle.sheet_format.specs.Format.{Decoded, decode, header}
 use Rattle.sheet_format.specs.declared.Header.{Header}
 use Rattle.sheet_format.specs.declared.Query.{Query}
 use Rattle.sheet_format.specs.declared.Query.TheVariants.{Register, Pairing, Equality, Trace}
 use Rattle.sheet_format.specs.declared.Command.{Command}
 use Rattle.sheet_format.specs.declared.Command.TheVariants.{End, Begin, Change, Show}
-use Rattle.sheet_format.specs.declared.Decoded.{Decoded}
-use Rattle.sheet_format.specs.declared.Decoded.TheVariants.{Found, NoCommand, Short, Nothing}
 use Rattle.operands.specs.Operands.{in_range}
 use Rattle.sheet.specs.Check.{placed, commands, check_sheet}
 use Rattle.machine.specs.Registers.{element}
@@ -60,8 +56,8 @@ abbrev pub refusal_text : Refusal → List ℕ
 refusal_text why = tagged_pair 69 (refusal_number why) (refusal_place why)
 
 abbrev pub printed_for : Verdict → List ℕ → List ℕ
-printed_for Accepted s = texts (header s) (commands (placed s)) start
-printed_for (Refused why) s = refusal_text why
+printed_for (Ok _) s = texts (header s) (commands (placed s)) start
+printed_for (Err why) s = refusal_text why
 
 unfoldable pub printed : List ℕ → List ℕ
 printed s = printed_for (check_sheet s) s
@@ -75,10 +71,8 @@ unfoldable pub in_range_text : Header → Command → State → List ℕ
 in_range_text h c x = cond (in_range h.rank c) (text h c x) []
 
 abbrev pub text_of : Header → Decoded → State → List ℕ
-text_of h (Found c next) x = in_range_text h c x
-text_of h NoCommand x = []
-text_of h Short x = []
-text_of h Nothing x = []
+text_of h (Ok (c, next)) x = in_range_text h c x
+text_of h (Err why) x = []
 
 unfoldable pub text_call : List ℕ → List ℕ → Header → Cursor → List ℕ → Outcome ℕ (List ℕ)
 text_call s x h k buffer =

@@ -1,16 +1,17 @@
 -- What inner contracts cite.
 --
---   Overwritten at x t u next   u is t with x in the place of its elements from an index on, and the next index
---   Shown m x t                 the registers of a sheet of rank m, and a buffer with room for what a command prints
+--   Room n t            the buffer of the text t has room for n bytes more
+--   Puts x t u          u is the text t with x put after it, in the same buffer
 use Rattle.std.specs.Prelude.{◌≡◌, List, ℕ, ◌+◌, ◌≤◌, length}
 use Rattle.lists.specs.Overwrite.{overwrite}
-use Rattle.output.specs.Text.{text_room}
+use Rattle.output.specs.declared.lines.Text.{Text}
 
-pub record Overwritten (at : ℕ) (x t u : List ℕ) (next : ℕ) : Type 0 where
-  pub text : u ≡ overwrite at x t
-  pub ends : next ≡ at + length x
+pub record Room (n : ℕ) (t : Text) : Type 0 where
+  pub within : t.size + n ≤ length t.bytes.now
 
-pub record Shown (m : ℕ) (x t : List ℕ) : Type 0 where
-  pub low : m ≤ 5
-  pub four : length x ≡ 2880
-  pub large : text_room ≤ length t
+pub record Puts (x : List ℕ) (t u : Text) : Type 0 where
+  pub text : u.bytes.now ≡ overwrite t.size x t.bytes.now
+  pub ends : u.size ≡ t.size + length x
+  pub room : length u.bytes.now ≡ length t.bytes.now
+  pub within : u.size ≤ length u.bytes.now
+  pub same : u.bytes.ghost_name ≡ t.bytes.ghost_name

@@ -2,19 +2,21 @@
 
 #![tactic(auto)]
 
-ghost use Rattle.std.specs.Prelude.{◌≡◌, true, ◌≤◌, ◌<◌, length};
+ghost use Rattle.std.specs.Prelude.{◌≡◌, true, suc, ◌≤◌, ◌<◌, length};
+ghost use Rattle.lists.specs.Numbers.{factorial};
 ghost use Rattle.sheet_format.specs.declared.Command.TheVariants.{Show};
 ghost use Rattle.sheet_format.specs.declared.Query.TheVariants.{Register, Pairing, Equality, Trace};
 ghost use Rattle.operands.specs.Operands.{in_range};
+ghost use Rattle.machine.specs.Registers.{element};
 ghost use Rattle.output.specs.Text.{text_room};
-ghost use Rattle.output.specs.Printed.{shown, text, in_range_text, text_call, error_call};
-ghost use Rattle.output.specs.Steps.{Overwritten, Shown};
+ghost use Rattle.output.specs.Printed.{shown, text, text_call, error_call};
+ghost use Rattle.output.specs.Steps.{Room, Puts};
 
+use lines::Text;
 use refusals::Refusal;
 use runner::Cursor;
-use sheet_format::{Command, Decoded, Header, Query};
+use sheet_format::{Command, Header, Query};
 
-mod equality;
 mod lines;
 
 // Bytes enough for what any command prints: 4 for a register's line, and 25 for each of 720 coefficients.
@@ -23,92 +25,100 @@ pub const ROOM: usize = 18004;
 // Bytes enough for the line of any refusal.
 pub const ERROR_ROOM: usize = 26;
 
-// A register's line, and a line for each of its nonzero coefficients.
-fn put_register(buffer: &mut [u8], x: &[u64], header: Header, r: usize) -> usize
-    requires { Shown header.rank x.now buffer.old × (r < 4) }
-    ensures { Overwritten 0 (shown header (Register r) x.now) buffer.old buffer.new result }
-{
-    let at = lines::put_line(buffer, 82, r as u64);
-    let from = 720 * r;
-    let to = from + ranks::size(header.rank);
-    lines::put_coefficients(buffer, at, &x[from..to])
+// The header of a sheet, and its registers.
+#[derive(Clone, Copy)]
+struct Registers<'a> {
+    header: Header,
+    x: &'a [u64],
+    ghost low: { header.rank ≤ 5 },
+    ghost four: { length x.now ≡ 2880 },
 }
 
-fn put_pairing(buffer: &mut [u8], x: &[u64], header: Header, a: usize, b: usize) -> usize
-    requires { Shown header.rank x.now buffer.old × (a < 4) × (b < 4) }
-    ensures { Overwritten 0 (shown header (Pairing a b) x.now) buffer.old buffer.new result }
-{
-    let size = ranks::size(header.rank);
-    let left = 720 * a;
-    let right = 720 * b;
-    let paired = pairings::pairing(
-        header.rank,
-        header.q,
-        &x[left..left + size],
-        &x[right..right + size],
-    );
-    lines::put_line(buffer, 80, paired.value)
+impl<'a> Registers<'a> {
+    // The element in a register.
+    fn element(self, r: usize) -> &'a [u64]
+        requires { r < 4 }
+        ensures is { result.now ≡ element self.entry.header.rank r self.entry.x.now }
+        ensures size { length result.now ≡ factorial (suc self.entry.header.rank) }
+        ensures few { length result.now ≤ 720 }
+    {
+        let from = 720 * r;
+        &self.x[from..from + ranks::size(self.header.rank)]
+    }
 }
 
-fn put_equality(buffer: &mut [u8], x: &[u64], header: Header, a: usize, b: usize) -> usize
-    requires { Shown header.rank x.now buffer.old × (a < 4) × (b < 4) }
-    ensures { Overwritten 0 (shown header (Equality a b) x.now) buffer.old buffer.new result }
+// A register's line, and a line for each of its nonzero coefficients. A command has its registers as plain numbers, of which each
+// function asks that they are below 4.
+#[tactic(auto, using(crate::proofs::LineLengths::digit_line))]
+fn put_register(out: &mut Text, registers: Registers, r: usize)
+    requires { Room text_room out.old × (r < 4) }
+    ensures { Puts (shown registers.entry.header (Register r) registers.entry.x.now) out.old out.new }
 {
-    let size = ranks::size(header.rank);
-    let left = 720 * a;
-    let right = 720 * b;
-    let same = equality::equal(&x[left..left + size], &x[right..right + size]);
-    lines::put_line(buffer, 81, same as u64)
+    out.put_line(b'R', r as u64);
+    out.put_coefficients(registers.element(r));
 }
 
-fn put_trace(buffer: &mut [u8], x: &[u64], header: Header, r: usize, z: u64) -> usize
-    requires { Shown header.rank x.now buffer.old × (r < 4) }
-    ensures { Overwritten 0 (shown header (Trace r z) x.now) buffer.old buffer.new result }
+// The call is not refused for registers of a sheet, so that the 0 is never put.
+#[tactic(auto, using(crate::proofs::LineLengths::line_short))]
+fn put_pairing(out: &mut Text, registers: Registers, a: usize, b: usize)
+    requires { Room text_room out.old × (a < 4) × (b < 4) }
+    ensures { Puts (shown registers.entry.header (Pairing a b) registers.entry.x.now) out.old out.new }
 {
-    let rank = header.rank;
-    let size = ranks::size(rank);
-    let from = 720 * r;
+    let header = registers.header;
+    let left = registers.element(a);
+    let right = registers.element(b);
+    let paired = pairings::pairing(header.rank, header.q, left, right);
+    out.put_line(b'P', paired.unwrap_or(0));
+}
+
+#[tactic(auto, using(crate::proofs::LineLengths::line_short))]
+fn put_equality(out: &mut Text, registers: Registers, a: usize, b: usize)
+    requires { Room text_room out.old × (a < 4) × (b < 4) }
+    ensures { Puts (shown registers.entry.header (Equality a b) registers.entry.x.now) out.old out.new }
+{
+    let left = registers.element(a);
+    let right = registers.element(b);
+    let same = left == right;
+    out.put_line(b'Q', u64::from(same));
+}
+
+// The call is not refused for registers of a sheet, so that the 0 is never put.
+#[tactic(auto, using(crate::proofs::LineLengths::line_short))]
+fn put_trace(out: &mut Text, registers: Registers, r: usize, z: u64)
+    requires { Room text_room out.old × (r < 4) }
+    ensures { Puts (shown registers.entry.header (Trace r z) registers.entry.x.now) out.old out.new }
+{
+    let header = registers.header;
     let mut scratch = [0u64; 7920];
-    let traced = traces::trace(rank, header.q, z, &x[from..from + size], &mut scratch);
-    lines::put_line(buffer, 84, traced.value)
+    let traced = traces::trace(header.rank, header.q, z, registers.element(r), &mut scratch);
+    out.put_line(b'T', traced.unwrap_or(0));
 }
 
 // What a query in range shows.
-fn put_shown(buffer: &mut [u8], x: &[u64], header: Header, query: Query) -> usize
-    requires { Shown header.rank x.now buffer.old × (in_range header.rank (Show query) ≡ true) }
-    ensures { Overwritten 0 (shown header query x.now) buffer.old buffer.new result }
+fn put_shown(out: &mut Text, registers: Registers, query: Query)
+    requires { Room text_room out.old × (in_range registers.header.rank (Show query) ≡ true) }
+    ensures { Puts (shown registers.entry.header query registers.entry.x.now) out.old out.new }
 {
     match query {
-        Query::Register(r) => put_register(buffer, x, header, r),
-        Query::Pairing(a, b) => put_pairing(buffer, x, header, a, b),
-        Query::Equality(a, b) => put_equality(buffer, x, header, a, b),
-        Query::Trace(r, z) => put_trace(buffer, x, header, r, z),
+        Query::Register(r) => put_register(out, registers, r),
+        Query::Pairing(a, b) => put_pairing(out, registers, a, b),
+        Query::Equality(a, b) => put_equality(out, registers, a, b),
+        Query::Trace(r, z) => put_trace(out, registers, r, z),
     }
 }
 
 // What a command in range prints.
-fn put_text(buffer: &mut [u8], x: &[u64], header: Header, count: u64, command: Command) -> usize
-    requires { Shown header.rank x.now buffer.old × (in_range header.rank command ≡ true) }
-    ensures { Overwritten 0 (text header command (record { contents = x.now; count = count })) buffer.old buffer.new result }
+#[tactic(auto, using(crate::proofs::LineLengths::line_short, crate::proofs::LineLengths::tagged_pair_short, crate::proofs::Putting::puts_none), unfolding(crate::specs::Printed::text))]
+fn put_text(out: &mut Text, registers: Registers, count: u64, command: Command)
+    requires { Room text_room out.old × (in_range registers.header.rank command ≡ true) }
+    ensures { Puts (text registers.entry.header command (record { contents = registers.entry.x.now; count = count })) out.old out.new }
 {
     match command {
-        Command::End => lines::put_line(buffer, 78, count),
-        Command::Begin(begun) => lines::put_tagged_pair(buffer, 72, begun.rank as u64, begun.q),
-        Command::Change(_) => 0,
-        Command::Show(query) => put_shown(buffer, x, header, query),
+        Command::End => out.put_line(b'N', count),
+        Command::Begin(begun) => out.put_tagged_pair(b'H', begun.rank as u64, begun.q),
+        Command::Change(_) => {}
+        Command::Show(query) => put_shown(out, registers, query),
     }
-}
-
-// What a command prints, if it is in range.
-fn put_found(buffer: &mut [u8], x: &[u64], header: Header, count: u64, command: Command) -> usize
-    requires { (length x.now ≡ 2880) × (text_room ≤ length buffer.old) }
-    ensures { Overwritten 0 (in_range_text header command (record { contents = x.now; count = count }))
-        buffer.old buffer.new result }
-{
-    if !operands::in_range(header.rank, command) {
-        return 0;
-    }
-    put_text(buffer, x, header, count, command)
 }
 
 // What the next command of a sheet prints, at the front of a lent buffer of 18,004 bytes or more: the command stands at the cursor, and x
@@ -124,13 +134,18 @@ pub fn text(sheet: &[u8], x: &[u64], buffer: &mut [u8], header: Header, cursor: 
     if x.len() != 2880 {
         return 0;
     }
-    let found = sheet_format::read(sheet, cursor.at);
-    match found {
-        Decoded::Found(command, _) => put_found(buffer, x, header, cursor.count, command),
-        Decoded::NoCommand => 0,
-        Decoded::Short => 0,
-        Decoded::Nothing => 0,
+    let Ok((command, _)) = sheet_format::read(sheet, cursor.at) else {
+        return 0;
+    };
+    if !operands::in_range(header.rank, command) {
+        return 0;
     }
+    let mut out = Text {
+        bytes: buffer,
+        size: 0,
+    };
+    put_text(&mut out, Registers { header, x }, cursor.count, command);
+    out.size
 }
 
 // The line of a refused sheet, at the front of a lent buffer of 26 bytes or more. The answer is its size. Nothing is written where
@@ -142,10 +157,11 @@ pub fn error(why: Refusal, buffer: &mut [u8]) -> usize
     if buffer.len() < ERROR_ROOM {
         return 0;
     }
-    lines::put_tagged_pair(
-        buffer,
-        69,
-        refusals::number_of(why) as u64,
-        refusals::place_of(why) as u64,
-    )
+    let mut out = Text {
+        bytes: buffer,
+        size: 0,
+    };
+    let number = u64::from(refusals::number_of(why));
+    out.put_tagged_pair(b'E', number, refusals::place_of(why) as u64);
+    out.size
 }

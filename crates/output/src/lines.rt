@@ -1,87 +1,89 @@
-// Lines of text into a lent buffer. A function writes from an offset on and answers the offset after what it wrote.
+// Lines of text in a lent buffer.
 
-ghost use Rattle.std.specs.Prelude.{[], ◌∷◌, ◌+◌, ◌*◌, ◌≤◌, ◌<◌, length};
+ghost use Rattle.std.specs.Prelude.{[], ◌∷◌, ◌+◌, ◌*◌, ◌≤◌, length};
 ghost use Rattle.output.specs.Text.{decimal, pair_line, line, tagged_pair, coefficients};
-ghost use Rattle.output.specs.Steps.{Overwritten};
+ghost use Rattle.output.specs.Steps.{Room, Puts};
 
-fn put_byte(text: &mut [u8], at: usize, b: u8) -> usize
-    requires { at < length text.old }
-    ensures { Overwritten at (b ∷ []) text.old text.new result }
-{
-    text[at] = b;
-    at + 1
+// A lent buffer, and how many bytes of text stand at its front. Its bytes are put one by one, since `write!` may fail, and says nothing then.
+// Its room is required where it is used, since a ghost field beside a `&mut` gets no generated proof.
+#[derive(Drop)]
+pub(crate) struct Text<'a> {
+    pub(crate) bytes: &'a mut [u8],
+    pub(crate) size: usize,
 }
 
-// The number in base ten: its digits but the last, and then the last.
-fn put_number(text: &mut [u8], at: usize, n: u64) -> usize
-    requires { at + length (decimal n) ≤ length text.old }
-    ensures { Overwritten at (decimal n) text.old text.new result }
-{
-    if n < 10 {
-        return put_byte(text, at, 48 + n as u8);
+impl Text<'_> {
+    fn put_byte(&mut self, b: u8)
+        requires { Room 1 self.old }
+        ensures { Puts (b ∷ []) self.old self.new }
+    {
+        self.bytes[self.size] = b;
+        self.size += 1;
     }
-    let next = put_number(text, at, n / 10);
-    put_byte(text, next, 48 + (n % 10) as u8)
-}
 
-// Two numbers, with a space between them, and a newline.
-fn put_pair(text: &mut [u8], at: usize, a: u64, b: u64) -> usize
-    requires { at + length (pair_line a b) ≤ length text.old }
-    ensures { Overwritten at (pair_line a b) text.old text.new result }
-{
-    let space = put_number(text, at, a);
-    let second = put_byte(text, space, 32);
-    let newline = put_number(text, second, b);
-    put_byte(text, newline, 10)
-}
-
-fn put_tag(text: &mut [u8], tag: u8) -> usize
-    requires { 2 ≤ length text.old }
-    ensures { Overwritten 0 (tag ∷ 32 ∷ []) text.old text.new result }
-{
-    text[0] = tag;
-    text[1] = 32;
-    2
-}
-
-// A letter, a space, a number and a newline.
-pub(crate) fn put_line(text: &mut [u8], tag: u8, a: u64) -> usize
-    requires { length (line tag a) ≤ length text.old }
-    ensures { Overwritten 0 (line tag a) text.old text.new result }
-{
-    let at = put_tag(text, tag);
-    let newline = put_number(text, at, a);
-    put_byte(text, newline, 10)
-}
-
-// A letter, a space and a pair of numbers.
-pub(crate) fn put_tagged_pair(text: &mut [u8], tag: u8, a: u64, b: u64) -> usize
-    requires { length (tagged_pair tag a b) ≤ length text.old }
-    ensures { Overwritten 0 (tagged_pair tag a b) text.old text.new result }
-{
-    let at = put_tag(text, tag);
-    put_pair(text, at, a, b)
-}
-
-// Index and value of a coefficient, unless it is zero.
-fn put_coefficient(text: &mut [u8], at: usize, i: usize, x: u64) -> usize
-    requires { at + length (coefficients i (x ∷ [])) ≤ length text.old }
-    ensures { Overwritten at (coefficients i (x ∷ [])) text.old text.new result }
-{
-    if x == 0 {
-        return at;
+    // The number in base ten: its digits but the last, and then the last.
+    fn put_number(&mut self, n: u64)
+        requires { Room (length (decimal n)) self.old }
+        ensures { Puts (decimal n) self.old self.new }
+    {
+        if 10 <= n {
+            self.put_number(n / 10);
+        }
+        self.put_byte(b'0' + (n % 10) as u8);
     }
-    put_pair(text, at, i as u64, x)
-}
 
-// A line for each nonzero coefficient of h, which has at most 720.
-pub(crate) fn put_coefficients(text: &mut [u8], at: usize, h: &[u64]) -> usize
-    requires { (length h.now ≤ 720) × (at + 25 * length h.now ≤ length text.old) }
-    ensures { Overwritten at (coefficients 0 h.now) text.old text.new result }
-{
-    let mut next = at;
-    for i in 0..h.len() {
-        next = put_coefficient(text, next, i, h[i]);
+    // A space and a number.
+    fn put_field(&mut self, n: u64)
+        requires { Room (1 + length (decimal n)) self.old }
+        ensures { Puts (32 ∷ decimal n) self.old self.new }
+    {
+        self.put_byte(b' ');
+        self.put_number(n);
     }
-    next
+
+    // A letter, a number and a newline.
+    #[tactic(auto, using(crate::proofs::LineLengths::length_line))]
+    pub(crate) fn put_line(&mut self, tag: u8, a: u64)
+        requires { Room (length (line tag a)) self.old }
+        ensures { Puts (line tag a) self.old self.new }
+    {
+        self.put_byte(tag);
+        self.put_field(a);
+        self.put_byte(b'\n');
+    }
+
+    // A letter, two numbers and a newline.
+    #[tactic(auto, using(crate::proofs::LineLengths::length_tagged_pair))]
+    pub(crate) fn put_tagged_pair(&mut self, tag: u8, a: u64, b: u64)
+        requires { Room (length (tagged_pair tag a b)) self.old }
+        ensures { Puts (tagged_pair tag a b) self.old self.new }
+    {
+        self.put_byte(tag);
+        self.put_field(a);
+        self.put_field(b);
+        self.put_byte(b'\n');
+    }
+
+    // Index and value of a coefficient, and a newline.
+    #[tactic(auto, using(crate::proofs::LineLengths::length_pair_line))]
+    fn put_coefficient(&mut self, i: usize, x: u64)
+        requires { Room (length (pair_line i x)) self.old }
+        ensures { Puts (pair_line i x) self.old self.new }
+    {
+        self.put_number(i as u64);
+        self.put_field(x);
+        self.put_byte(b'\n');
+    }
+
+    // A line for each nonzero coefficient of h, which has at most 720.
+    pub(crate) fn put_coefficients(&mut self, h: &[u64])
+        requires { (length h.now ≤ 720) × Room (25 * length h.now) self.old }
+        ensures { Puts (coefficients 0 h.now) self.old self.new }
+    {
+        for (i, x) in h.iter().enumerate() {
+            if *x != 0 {
+                self.put_coefficient(i, *x);
+            }
+        }
+    }
 }

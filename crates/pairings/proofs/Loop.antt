@@ -4,7 +4,7 @@
 --   lent size k x          block k of x, as the code lends it
 --   part k                 the sum over the permutations u a(m, k), without the power of q for a(m, k)
 --   Summed g s c           the last c blocks make s, and g has the weights without the weight c
-use mathlib.Core.Path.{◌≡◌, refl, sym, ap, ap₂, ◌∙◌}
+use mathlib.Core.Path.{◌≡◌, sym, ap, ap₂, ◌∙◌}
 use mathlib.Core.List.{List}
 use Prim.Native.Nat.{ℕ, zero, suc, ◌+◌, ◌*◌, ◌-◌, ◌^◌, ◌≤◌, ◌<◌}
 use native.Mathlib.Omega.{arith}
@@ -22,7 +22,7 @@ use Rattle.ranks.proofs.Sizes.{size_is}
 use Rattle.pairings.specs.Walk.{by_length, found, walked, WalkPre}
 use Rattle.pairings.proofs.ByLength.{horner, by_length_cong}
 use Rattle.pairings.proofs.WordBlocks.{word_blocks}
-use Rattle.pairings.proofs.Rest.{weight, Rest, tail, rest_none, rest_more}
+use Rattle.pairings.proofs.Rest.{weight, Rest, tail, tail_size, rest_none, rest_more}
 use Rattle.pairings.proofs.Found.{found_word, found_join, reach_rest}
 
 abbrev lent : (n k : ℕ) → List ℕ → List ℕ
@@ -57,7 +57,6 @@ module _ {m top n : ℕ} {a b f : List ℕ} (h : WalkPre m top a b f) (e : n ≡
       record {
         some = omega arith;
         low = omega (arith, h.low);
-        seven = z.seven;
         left = part_size n (m - c) a (block_fits c l) ∙ size_of;
         within = omega (arith, h.within);
         reach = rw e (reach_rest m c top f g (omega arith) z.rest h.reach);
@@ -65,18 +64,18 @@ module _ {m top n : ℕ} {a b f : List ℕ} (h : WalkPre m top a b f) (e : n ≡
 
 -- ---- the loop
 
-pub summed_none : (q m : ℕ) {top n : ℕ} {a b f : List ℕ} → WalkPre m top a b f → n ≡ size (m - 1) → q < 2 ^ 64
+pub summed_none : (q m : ℕ) {top n : ℕ} {a b f : List ℕ} → length f ≡ 7 → WalkPre m top a b f → n ≡ size (m - 1) → q < 2 ^ 64
     → ((i : ℕ) → Fits w64 (get_or a i 0)) → ((i : ℕ) → Fits w64 (get_or b i 0)) → Summed q m top n a b f (tail f) 0 0
 unfolding walked modular
-summed_none q zero h e l x y = absurd (omega (arith, h.some))
-summed_none q (suc i) {top} {n} {a} {b} {f} h e l x y =
+summed_none q zero seven h e l x y = absurd (omega (arith, h.some))
+summed_none q (suc i) {top} {n} {a} {b} {f} seven h e l x y =
     let blocks : suc i + 1 - 0 ≡ i + 2 = omega arith in
     let rank : suc i - 1 ≡ i = omega arith in
     let size = size_of h e ∙ ap (λ (j : ℕ). factorial (suc j)) rank in
     record {
       within = omega arith;
-      seven = refl;
-      rest = rest_none (suc i) f (omega (arith, h.low));
+      seven = tail_size f seven;
+      rest = rest_none (suc i) f seven (omega (arith, h.low));
       whole = (λ t. horner ℕ words q (blocks t) (λ k. by_length ℕ words q (rank t) (block (size t) k a) (λ u. found top b f (join (rank t) k u))) 0)
           ∙ sym (word_blocks q i l a (found top b f) (slice_element h.left x) (λ w. found_word top b f w y));
     }

@@ -3,12 +3,12 @@
 --   weight f j       the weight j of a list of weights
 --   Rest n c f g     g has n weights, those of f without the weight c
 --   tail f           seven weights without the first, and 0
-use mathlib.Core.Path.{◌≡◌, refl, sym, ap, ◌∙◌}
-use mathlib.Core.List.{List, [], ◌∷◌}
-use Prim.Native.Nat.{ℕ, zero, suc, ◌+◌, ◌<◌}
+use mathlib.Core.Path.{◌≡◌, sym, ap, ◌∙◌}
+use mathlib.Core.List.{List, [], ◌∷◌, ◌++◌}
+use Prim.Native.Nat.{ℕ, suc, ◌+◌, ◌<◌}
 use native.Mathlib.Omega.{arith}
-use lib.ListN.{length, get_or, set}
-use lib.Seq.{get_or-set_same, get_or-set_other}
+use lib.ListN.{length, get_or, set, take, drop, length-append, length-drop, get_or-append}
+use lib.Seq.{length-take-le, get_or-take, get_or-drop, get_or-set_same, get_or-set_other}
 use Rattle.lists.proofs.Test.{SameView, is, isnt, same?}
 use Rattle.perms.specs.Extend.{bump}
 use Rattle.perms.proofs.Extend.{BumpView, under, over, bump?, bump_under, bump_over}
@@ -20,19 +20,21 @@ abbrev pub Rest : (n c : ℕ) (f g : List ℕ) → Type 0
 Rest n c f g = (j : ℕ) → j < n → weight g j ≡ weight f (bump c j)
 
 abbrev pub tail : List ℕ → List ℕ
-tail f = weight f 1 ∷ weight f 2 ∷ weight f 3 ∷ weight f 4 ∷ weight f 5 ∷ weight f 6 ∷ 0 ∷ []
+tail f = take 6 (drop 1 f) ++ (0 ∷ [])
 
-tail_at : (f : List ℕ) (j : ℕ) → j < 6 → weight (tail f) j ≡ weight f (suc j)
-tail_at f zero h = refl
-tail_at f (suc zero) h = refl
-tail_at f (suc (suc zero)) h = refl
-tail_at f (suc (suc (suc zero))) h = refl
-tail_at f (suc (suc (suc (suc zero)))) h = refl
-tail_at f (suc (suc (suc (suc (suc zero))))) h = refl
-tail_at f (suc (suc (suc (suc (suc (suc j)))))) h = absurd (omega arith)
+six : (f : List ℕ) → length f ≡ 7 → length (take 6 (drop 1 f)) ≡ 6
+six f e = length-take-le 6 (drop 1 f) (omega (arith, length-drop 1 f))
 
-pub rest_none : (n : ℕ) (f : List ℕ) → n < 7 → Rest n 0 f (tail f)
-rest_none n f h j k = tail_at f j (omega arith) ∙ ap (weight f) (sym (bump_over (omega arith)))
+pub tail_size : (f : List ℕ) → length f ≡ 7 → length (tail f) ≡ 7
+tail_size f e = length-append (take 6 (drop 1 f)) (0 ∷ []) ∙ omega (arith, six f e)
+
+tail_at : (f : List ℕ) (j : ℕ) → length f ≡ 7 → j < 6 → weight (tail f) j ≡ weight f (suc j)
+tail_at f j e h =
+    get_or-append (take 6 (drop 1 f)) (0 ∷ []) 0 j (omega (arith, six f e)) ∙ get_or-take 6 (drop 1 f) j 0 h ∙ get_or-drop 1 f j 0
+    ∙ ap (weight f) (omega arith)
+
+pub rest_none : (n : ℕ) (f : List ℕ) → length f ≡ 7 → n < 7 → Rest n 0 f (tail f)
+rest_none n f e h j k = tail_at f j e (omega arith) ∙ ap (weight f) (sym (bump_over (omega arith)))
 
 pub rest_more : (n c : ℕ) (f g : List ℕ) → Rest n c f g → c < length g → Rest n (c + 1) f (set g c (weight f c))
 rest_more n c f g r h j k = go (same? j c) (bump? c j)

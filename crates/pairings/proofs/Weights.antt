@@ -44,7 +44,6 @@ module _ {m : ℕ} {a b : List ℕ} (h : PairPre m a b) where
       record {
         some = some;
         low = h.low;
-        seven = refl;
         left = h.left;
         within = omega (arith, h.right, series_factorials (suc m));
         reach = omega (arith, h.right, series_factorials (suc m), each);

@@ -36,7 +36,6 @@ walked q m top a b weights = by_length ℕ words q m a (found top b weights)
 pub record WalkPre (m top : ℕ) (a b weights : List ℕ) : Type 0 where
   pub some : 1 ≤ m
   pub low : m ≤ 6
-  pub seven : length weights ≡ 7
   pub left : length a ≡ factorial (suc m)
   pub within : top < length b
   pub reach : series 0 (suc m) (λ j. get_or weights j 0 * j) ≤ top

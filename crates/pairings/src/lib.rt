@@ -8,9 +8,8 @@ ghost use Rattle.algebra.specs.Pairing.{pairing};
 ghost use Rattle.element_calls.specs.Calls.{pairing_call};
 ghost use Rattle.pairings.specs.Walk.{PairPre};
 
-use element_calls::Valued;
 use element_checks::checks;
-use refusals::{Verdict, then};
+use refusals::Refusal;
 
 mod walk;
 
@@ -30,19 +29,12 @@ fn paired(left: &[u64], right: &[u64], m: usize, q: u64) -> u64
 // right at the inverse of w. No ring operation is counted.
 // Refused: 1 a rank above 6; 2 a slice that is not M words.
 // Example: of rank 1 with q = 3, 0 1 and 0 1 give 3.
-pub fn pairing(m: usize, q: u64, left: &[u64], right: &[u64]) -> Valued
+#[tactic(auto, unfolding(element_calls::specs::Calls::pairing_call))]
+pub fn pairing(m: usize, q: u64, left: &[u64], right: &[u64]) -> Result<u64, Refusal>
     ensures { result ≡ pairing_call m q left.now right.now }
 {
-    let sized = then(checks::rank(m), checks::sized(m, left.len()));
-    let checked = then(sized, checks::sized(m, right.len()));
-    if let Verdict::Refused(why) = checked {
-        return Valued {
-            verdict: Verdict::Refused(why),
-            value: 0,
-        };
-    }
-    Valued {
-        verdict: Verdict::Accepted,
-        value: paired(left, right, m, q),
-    }
+    checks::rank(m)?;
+    checks::sized(m, left.len())?;
+    checks::sized(m, right.len())?;
+    Ok(paired(left, right, m, q))
 }

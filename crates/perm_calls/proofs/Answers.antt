@@ -9,7 +9,6 @@ use lib.ListN.{length, drop}
 use lib.Seq.{take_at, drop_at}
 use Rattle.lists.proofs.Test.{less_yes, less_no, less_true}
 use Rattle.refusals.specs.Refusals.{◌then◌}
-use Rattle.refusals.specs.declared.Verdict.TheVariants.{Accepted}
 use Rattle.refusals.proofs.Ended.{ended_done}
 use Rattle.perms.specs.Permutation.{product, generator, len, descent}
 use Rattle.perms.specs.Tower.{Tower, standard, images_of, mask, number}
@@ -17,8 +16,8 @@ use Rattle.perms.proofs.Lengths.{len_images_of, length_standard}
 use Rattle.perms.proofs.Mask.{mask_lt, ones_mask, number_tally, mask_set}
 use Rattle.perm_calls.specs.Calls.{tower_verdict, room, standard_word_call, descents_call}
 use Rattle.perm_calls.specs.Claims.{DescentSet, WordResult, Answers}
-use Rattle.perm_calls.specs.declared.Counted.TheVariants as C
 use Rattle.perm_calls.proofs.Accepted.{accept_tower}
+use Rattle.std.specs.Prelude.{Ok, Err}
 
 descent_shortens : (m : ℕ) (w : List ℕ) (i : ℕ) → (descent m w i ≡ true) ↔ (len (product (generator m i) w) < len w)
 unfolding descent
@@ -63,11 +62,11 @@ word_spelled t buffer h c f = rw whole (record {
     long : length (standard t) ≡ n
     long = length_standard t ∙ sym (len_images_of t c)
 
-    taken : (tower_verdict t then room (length buffer) n) ≡ Accepted
+    taken : (tower_verdict t then room (length buffer) n) ≡ Ok tt
     taken = rw (accept_tower t (h, c), less_no f) refl
 
-    whole : standard_word_call t buffer ≡ record { answer = C.Count n; lent = standard t ++ drop n buffer }
-    whole = ended_done C.Refused buffer taken (ap C.Count (sym long)) (ap (λ k. standard t ++ drop k buffer) (sym long))
+    whole : standard_word_call t buffer ≡ record { answer = Ok n; lent = standard t ++ drop n buffer }
+    whole = ended_done Err buffer taken (ap Ok (sym long)) (ap (λ k. standard t ++ drop k buffer) (sym long))
 
 pub answers : Answers
 answers = record { descents = descent_set; word = word_spelled }

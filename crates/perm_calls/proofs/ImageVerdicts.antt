@@ -9,14 +9,13 @@ use lib.ListN.{length, get_or, take}
 use Rattle.lists.specs.Lists.{same, less, first, count}
 use Rattle.lists.proofs.Test.{SameView, is, isnt, same?, same_no, less_yes, less_no, same_false, less_false, or_first, or_next}
 use Rattle.lists.proofs.First.{passed}
-use Rattle.refusals.specs.Refusals.{unless}
+use Rattle.refusals.specs.Refusals.{unless, Verdict}
 use Rattle.refusals.specs.declared.Refusal.TheVariants.{Length, Image}
-use Rattle.refusals.specs.declared.Verdict.{Verdict}
-use Rattle.refusals.specs.declared.Verdict.TheVariants.{Accepted, Refused}
 use Rattle.refusals.proofs.Verdicts.{accepts_first, accepts_next, accepts_unless}
 use Rattle.perms.specs.Permutation.{Perm}
 use Rattle.perms.proofs.Valid.{perm_of_checked}
 use Rattle.perm_calls.specs.Calls.{bad_image, first_bad_image, images_verdict}
+use Rattle.std.specs.Prelude.{Ok, Err}
 
 -- ---- the verdict by the size
 
@@ -24,11 +23,11 @@ pub images_sized : (w : List ℕ) → length w ≢ 0 → length w ≤ 64 → ima
 unfolding images_verdict
 images_sized w a b = rw (same_no a, less_no b) refl
 
-pub images_unsized : (w : List ℕ) → (length w ≢ 0 → 64 < length w) → images_verdict w ≡ Refused Length
+pub images_unsized : (w : List ℕ) → (length w ≢ 0 → 64 < length w) → images_verdict w ≡ Err Length
 unfolding images_verdict
 images_unsized w h = go (same? (length w) 0)
   where
-    go : SameView (length w) 0 → images_verdict w ≡ Refused Length
+    go : SameView (length w) 0 → images_verdict w ≡ Err Length
     go (is p e) = rw e refl
     go (isnt p e) = rw (e, less_yes (h p)) refl
 
@@ -57,7 +56,7 @@ good_image w i e = (
     both : (a || b) ≡ false
     both = or_first (a || b) d e
 
-pub images_accepted : (w : List ℕ) → images_verdict w ≡ Accepted → (1 ≤ length w) × (length w ≤ 64) × Perm (pred (length w)) w
+pub images_accepted : (w : List ℕ) → images_verdict w ≡ Ok tt → (1 ≤ length w) × (length w ≤ 64) × Perm (pred (length w)) w
 unfolding images_verdict first_bad_image
 images_accepted w e = (
   some,

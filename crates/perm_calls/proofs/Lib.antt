@@ -1,5 +1,4 @@
 pub mod Verdicts
-pub mod Judged
 pub mod ImageVerdicts
 pub mod Accepted
 pub mod Refusals

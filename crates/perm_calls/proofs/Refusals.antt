@@ -8,18 +8,16 @@ use native.Mathlib.Omega.{arith}
 use lib.ListN.{length}
 use Rattle.lists.specs.Lists.{same, less}
 use Rattle.lists.proofs.Test.{less_true, less_false, or_next}
-use Rattle.refusals.specs.Refusals.{◌then◌, unless, verdict_report, Refuses, Keeps}
+use Rattle.refusals.specs.Refusals.{◌then◌, unless, verdict_report, Refuses, Keeps, Verdict}
 use Rattle.refusals.specs.declared.Refusal.TheVariants.{Length, Image, Entry, Buffer}
-use Rattle.refusals.specs.declared.Verdict.{Verdict}
-use Rattle.refusals.specs.declared.Verdict.TheVariants.{Accepted, Refused}
 use Rattle.refusals.proofs.Verdicts.{accepts_first, accepts_unless, Near, near_then, near_unless}
 use Rattle.refusals.proofs.Ended.{ended_keeps}
 use Rattle.perms.specs.Permutation.{len}
 use Rattle.perms.specs.Tower.{standard, images_of}
 use Rattle.perm_calls.specs.Calls.{first_bad_image, first_bad_entry, images_verdict, entries_verdict, tower_verdict, towers_verdict, exact, room, write, counted, generators, tower_of_call, images_of_call, inverse_call, product_call, length_call, standard_word_call, descents_call, counted_report, generators_report}
 use Rattle.perm_calls.specs.Claims.{Refusals}
-use Rattle.perm_calls.specs.declared.Counted.TheVariants as C
 use Rattle.perm_calls.proofs.Verdicts.{sizes_accepted}
+use Rattle.std.specs.Prelude.{Ok, Err}
 
 -- ---- places
 
@@ -77,15 +75,15 @@ room_near size n = near_unless (less size n) Buffer (λ s. omega arith)
 write_keeps : (v : Verdict) (size n : ℕ) (buffer result : List ℕ) → Near v
     → Keeps (verdict_report (write (v then exact size n) buffer result).answer) buffer (write (v then exact size n) buffer result).lent
 write_keeps v size n buffer result h =
-    ended_keeps verdict_report (v then exact size n) Refused Accepted 0 buffer result (λ why. refl) refl (near_then v (exact size n) h (λ e. exact_near size n))
+    ended_keeps verdict_report (v then exact size n) Err (Ok tt) 0 buffer result (λ why. refl) refl (near_then v (exact size n) h (λ e. exact_near size n))
 
 counted_refuses : (v : Verdict) (n : ℕ) → Near v → Refuses (counted_report (counted v n))
-counted_refuses Accepted n h = record { counts = λ d. absurd (d refl); near = h }
-counted_refuses (Refused why) n h = record { counts = λ d. refl; near = h }
+counted_refuses (Ok _) n h = record { counts = λ d. absurd (d refl); near = h }
+counted_refuses (Err why) n h = record { counts = λ d. refl; near = h }
 
 generators_refuse : (v : Verdict) (p : ℕ → Bool) (m : ℕ) → Near v → Refuses (generators_report (generators v p m))
-generators_refuse Accepted p m h = record { counts = λ d. absurd (d refl); near = h }
-generators_refuse (Refused why) p m h = record { counts = λ d. refl; near = h }
+generators_refuse (Ok _) p m h = record { counts = λ d. absurd (d refl); near = h }
+generators_refuse (Err why) p m h = record { counts = λ d. refl; near = h }
 
 pub refusals : Refusals
 unfolding tower_of_call images_of_call inverse_call product_call length_call standard_word_call descents_call
@@ -97,7 +95,7 @@ refusals = record {
   lengths = λ t. counted_refuses (tower_verdict t) _ (tower_near t);
   word = λ t buffer.
       let letters = len (images_of t) in
-      ended_keeps counted_report (tower_verdict t then room (length buffer) letters) C.Refused _ (length (standard t)) buffer _ (λ why. refl) refl
+      ended_keeps counted_report (tower_verdict t then room (length buffer) letters) Err _ (length (standard t)) buffer _ (λ why. refl) refl
       (near_then (tower_verdict t) (room (length buffer) letters) (tower_near t) (λ e. room_near (length buffer) letters));
   descents = λ t. generators_refuse (tower_verdict t) _ _ (tower_near t);
 }

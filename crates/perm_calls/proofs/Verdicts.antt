@@ -10,23 +10,22 @@ use Rattle.lists.proofs.Test.{SameView, is, isnt, LessView, lt, ge, same?, less?
 use Rattle.lists.proofs.First.{passed}
 use Rattle.refusals.specs.Refusals.{◌then◌, unless}
 use Rattle.refusals.specs.declared.Refusal.TheVariants.{Length, Entry, Buffer}
-use Rattle.refusals.specs.declared.Verdict.{Verdict}
-use Rattle.refusals.specs.declared.Verdict.TheVariants.{Accepted}
 use Rattle.refusals.proofs.Verdicts.{accepts_first, accepts_next, accepts_unless}
 use Rattle.perms.specs.Tower.{Tower}
 use Rattle.perm_calls.specs.Calls.{first_bad_entry, entries_verdict, tower_verdict, towers_verdict, exact, room}
+use Rattle.std.specs.Prelude.{Ok}
 
 -- ---- accepted buffers
 
-pub fitted : (v : Verdict) (size n : ℕ) → (v then exact size n) ≡ Accepted → (v ≡ Accepted) × (size ≡ n)
+pub exact_accepted : (size n : ℕ) → exact size n ≡ Ok tt → size ≡ n
 unfolding exact
-fitted v size n e = (accepts_first v (exact size n) e, go (same? size n))
+exact_accepted size n e = go (same? size n)
   where
     go : SameView size n → size ≡ n
     go (is p f) = p
-    go (isnt p f) = absurd (omega (arith, ap bit (ap not (sym f) ∙ accepts_unless (not (same size n)) Buffer (accepts_next v (exact size n) e))))
+    go (isnt p f) = absurd (omega (arith, ap bit (ap not (sym f) ∙ accepts_unless (not (same size n)) Buffer e)))
 
-pub room_accepted : (size n : ℕ) → room size n ≡ Accepted → n ≤ size
+pub room_accepted : (size n : ℕ) → room size n ≡ Ok tt → n ≤ size
 unfolding room
 room_accepted size n e = less_false size n (accepts_unless (less size n) Buffer e)
 
@@ -37,7 +36,7 @@ unfolding towers_verdict
 towers_sized t u a b e = rw (less_no a, less_no b, same_yes e) refl
 
 -- the entries, whatever the size
-entries_accepted : (t : List ℕ) → entries_verdict t ≡ Accepted → Tower (length t) t
+entries_accepted : (t : List ℕ) → entries_verdict t ≡ Ok tt → Tower (length t) t
 unfolding entries_verdict first_bad_entry
 entries_accepted t e = record { size = refl; within = λ i. go i (less? i (length t)) }
   where
@@ -51,14 +50,14 @@ entries_accepted t e = record { size = refl; within = λ i. go i (less? i (lengt
     go i (lt h f) = less_false (suc i) (get_or t i 0) (passed bad 0 (length t) i (omega arith) (omega (arith, all)))
     go i (ge h f) = omega (arith, get_or-eq_default t 0 {n = i} h)
 
-pub tower_accepted : (t : List ℕ) → tower_verdict t ≡ Accepted → (length t ≤ 63) × Tower (length t) t
+pub tower_accepted : (t : List ℕ) → tower_verdict t ≡ Ok tt → (length t ≤ 63) × Tower (length t) t
 unfolding tower_verdict
 tower_accepted t e =
     let size = unless (less 63 (length t)) Length in
     (less_false 63 (length t) (accepts_unless (less 63 (length t)) Length (accepts_first size (entries_verdict t) e)), entries_accepted t (accepts_next size (entries_verdict t) e))
 
 -- the sizes of two towers
-pub sizes_accepted : (t u : List ℕ) → unless (less 63 (length t) || less 63 (length u) || not (same (length t) (length u))) Length ≡ Accepted
+pub sizes_accepted : (t u : List ℕ) → unless (less 63 (length t) || less 63 (length u) || not (same (length t) (length u))) Length ≡ Ok tt
     → (length t ≤ 63) × (length u ≤ 63) × (length t ≡ length u)
 sizes_accepted t u e = (less_false 63 (length t) (or_first a b small), less_false 63 (length u) (or_next a b small), equal (same? (length t) (length u)))
   where
@@ -81,7 +80,7 @@ sizes_accepted t u e = (less_false 63 (length t) (or_first a b small), less_fals
     equal (is p f) = p
     equal (isnt p f) = absurd (omega (arith, ap bit (ap not (sym f) ∙ or_next (a || b) d sizes)))
 
-pub towers_accepted : (t u : List ℕ) → towers_verdict t u ≡ Accepted → (length t ≤ 63) × Tower (length t) t × Tower (length t) u
+pub towers_accepted : (t u : List ℕ) → towers_verdict t u ≡ Ok tt → (length t ≤ 63) × Tower (length t) t × Tower (length t) u
 unfolding towers_verdict
 towers_accepted t u e =
     let size = unless (less 63 (length t) || less 63 (length u) || not (same (length t) (length u))) Length in

@@ -1,5 +1,6 @@
 -- The calls on permutations and towers, whole: for all lists, what a call answers and what its buffer then holds.
 --
+--   found i n                     what a search among n numbers finds, where it ends at i: nothing if it ends at n
 --   bad_image w i                 the image at an index is 0, too large or already seen
 --   first_bad_image w             the index of the first such image, else the number of images
 --   first_bad_entry t             the index of the first entry a_j above j, else the number of entries
@@ -16,20 +17,19 @@
 --   counted_report a              number, place and count of the answer of a call that counts
 --   generators_report a           the same of the answer for a set of generators
 --   generators_mask a             its mask, 0 for a refusal
-use Rattle.std.specs.Prelude.{Bool, not, ◌||◌, List, ◌++◌, ℕ, suc, ◌+◌, length, get_or, take, drop}
+use Rattle.std.specs.Prelude.{Bool, not, ◌||◌, cond, List, ◌++◌, ℕ, suc, ◌+◌, length, get_or, take, drop, Option, Some, None, Result, Ok, Err}
 use Rattle.lists.specs.Lists.{same, less, first, count}
-use Rattle.refusals.specs.Refusals.{◌then◌, unless, Report, reported, Outcome, ended}
+use Rattle.refusals.specs.Refusals.{Verdict, ◌then◌, unless, Report, reported, Outcome, ended}
+use Rattle.refusals.specs.declared.Refusal.{Refusal}
 use Rattle.refusals.specs.declared.Refusal.TheVariants.{Length, Image, Entry, Buffer}
-use Rattle.refusals.specs.declared.Verdict.{Verdict}
-use Rattle.refusals.specs.declared.Verdict.TheVariants.{Accepted, Refused}
 use Rattle.perms.specs.Permutation.{product, inverse, len, descent}
 use Rattle.perms.specs.Tower.{tower_of, standard, images_of, mask, number}
-use Rattle.perm_calls.specs.declared.Counted.{Counted}
-use Rattle.perm_calls.specs.declared.Counted.TheVariants as C
 use Rattle.perm_calls.specs.declared.Generators.{Generators}
-use Rattle.perm_calls.specs.declared.Generators.TheVariants as G
 
 -- ---- the checks
+
+abbrev pub found : ℕ → ℕ → Option ℕ
+found i n = cond (less i n) (Some i) None
 
 unfoldable pub bad_image : List ℕ → ℕ → Bool
 bad_image w i = let x = get_or w i 0 in same x 0 || less (length w) x || less 0 (count x (take i w))
@@ -66,7 +66,7 @@ room size n = unless (less size n) Buffer
 -- ---- the calls
 
 abbrev pub write : Verdict → List ℕ → List ℕ → Outcome Verdict (List ℕ)
-write v buffer result = ended v Refused Accepted buffer result
+write v buffer result = ended v Err (Ok tt) buffer result
 
 -- one entry less than there are images
 unfoldable pub tower_of_call : List ℕ → List ℕ → Outcome Verdict (List ℕ)
@@ -81,36 +81,36 @@ inverse_call t buffer = write (tower_verdict t then exact (length buffer) (lengt
 unfoldable pub product_call : List ℕ → List ℕ → List ℕ → Outcome Verdict (List ℕ)
 product_call t u buffer = write (towers_verdict t u then exact (length buffer) (length t)) buffer (tower_of (product (images_of t) (images_of u)))
 
-abbrev pub counted : Verdict → ℕ → Counted
-counted Accepted n = C.Count n
-counted (Refused why) n = C.Refused why
+abbrev pub counted : Verdict → ℕ → Result ℕ Refusal
+counted (Ok _) n = Ok n
+counted (Err why) n = Err why
 
-unfoldable pub length_call : List ℕ → Counted
+unfoldable pub length_call : List ℕ → Result ℕ Refusal
 length_call t = counted (tower_verdict t) (len (images_of t))
 
-abbrev pub spell : Verdict → List ℕ → List ℕ → Outcome Counted (List ℕ)
-spell v buffer word = ended v C.Refused (C.Count (length word)) buffer (word ++ drop (length word) buffer)
+abbrev pub spell : Verdict → List ℕ → List ℕ → Outcome (Result ℕ Refusal) (List ℕ)
+spell v buffer word = ended v Err (Ok (length word)) buffer (word ++ drop (length word) buffer)
 
-unfoldable pub standard_word_call : List ℕ → List ℕ → Outcome Counted (List ℕ)
+unfoldable pub standard_word_call : List ℕ → List ℕ → Outcome (Result ℕ Refusal) (List ℕ)
 standard_word_call t buffer = spell (tower_verdict t then room (length buffer) (len (images_of t))) buffer (standard t)
 
-abbrev pub generators : Verdict → (ℕ → Bool) → ℕ → Generators
-generators Accepted p m = G.Set (mask p m) (number p m)
-generators (Refused why) p m = G.Refused why
+abbrev pub generators : Verdict → (ℕ → Bool) → ℕ → Result Generators Refusal
+generators (Ok _) p m = Ok (record { mask = mask p m; count = number p m })
+generators (Err why) p m = Err why
 
-unfoldable pub descents_call : List ℕ → Generators
+unfoldable pub descents_call : List ℕ → Result Generators Refusal
 descents_call t = generators (tower_verdict t) (descent (length t) (images_of t)) (length t)
 
 -- ---- what the answers say
 
-abbrev pub counted_report : Counted → Report
-counted_report (C.Count n) = reported Accepted n
-counted_report (C.Refused why) = reported (Refused why) 0
+abbrev pub counted_report : Result ℕ Refusal → Report
+counted_report (Ok n) = reported (Ok tt) n
+counted_report (Err why) = reported (Err why) 0
 
-abbrev pub generators_report : Generators → Report
-generators_report (G.Set bits n) = reported Accepted n
-generators_report (G.Refused why) = reported (Refused why) 0
+abbrev pub generators_report : Result Generators Refusal → Report
+generators_report (Ok set) = reported (Ok tt) set.count
+generators_report (Err why) = reported (Err why) 0
 
-abbrev pub generators_mask : Generators → ℕ
-generators_mask (G.Set bits n) = bits
-generators_mask (G.Refused why) = 0
+abbrev pub generators_mask : Result Generators Refusal → ℕ
+generators_mask (Ok set) = set.mask
+generators_mask (Err why) = 0

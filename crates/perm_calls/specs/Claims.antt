@@ -6,23 +6,20 @@
 --                          no other bit is set, and the number is that of these s_i, and of the set bits
 --   WordResult n x b c     a call c on the buffer b counts n, makes x the first n bytes of the buffer, and leaves those after them as they were
 --   Answers                both, for each tower within document 01's sizes
-use Rattle.std.specs.Prelude.{◌≡◌, ◌↔◌, List, ℕ, pred, ◌-◌, ◌/◌, ◌%◌, ◌^◌, ◌≤◌, ◌<◌, length, take, drop}
+use Rattle.std.specs.Prelude.{◌≡◌, ◌↔◌, List, ℕ, pred, ◌-◌, ◌/◌, ◌%◌, ◌^◌, ◌≤◌, ◌<◌, length, take, drop, Result, Ok}
 use Rattle.std.specs.Int.Count.{ones}
 use Rattle.lists.specs.Lists.{less, range, tally}
 use Rattle.refusals.specs.Refusals.{Outcome, verdict_report, Refuses, Keeps}
-use Rattle.refusals.specs.declared.Verdict.TheVariants.{Accepted}
+use Rattle.refusals.specs.declared.Refusal.{Refusal}
 use Rattle.perms.specs.Permutation.{Perm, product, generator, len, Letter}
 use Rattle.perms.specs.Tower.{Tower, standard, images_of}
 use Rattle.perm_calls.specs.Calls.{images_verdict, tower_verdict, towers_verdict, tower_of_call, images_of_call, inverse_call, product_call, length_call, standard_word_call, descents_call, counted_report, generators_report}
-use Rattle.perm_calls.specs.declared.Counted.{Counted}
-use Rattle.perm_calls.specs.declared.Counted.TheVariants.{Count}
 use Rattle.perm_calls.specs.declared.Generators.{Generators}
-use Rattle.perm_calls.specs.declared.Generators.TheVariants.{Set}
 
 pub record Checks : Type 0 where
-  pub images : (w : List ℕ) → (images_verdict w ≡ Accepted) ↔ ((1 ≤ length w) × (length w ≤ 64) × Perm (pred (length w)) w)
-  pub tower : (t : List ℕ) → (tower_verdict t ≡ Accepted) ↔ ((length t ≤ 63) × Tower (length t) t)
-  pub towers : (t u : List ℕ) → (towers_verdict t u ≡ Accepted) ↔ ((length t ≤ 63) × Tower (length t) t × Tower (length t) u)
+  pub images : (w : List ℕ) → (images_verdict w ≡ Ok tt) ↔ ((1 ≤ length w) × (length w ≤ 64) × Perm (pred (length w)) w)
+  pub tower : (t : List ℕ) → (tower_verdict t ≡ Ok tt) ↔ ((length t ≤ 63) × Tower (length t) t)
+  pub towers : (t u : List ℕ) → (towers_verdict t u ≡ Ok tt) ↔ ((length t ≤ 63) × Tower (length t) t × Tower (length t) u)
 
 pub record Refusals : Type 0 where
   pub tower_of_lem : (w buffer : List ℕ) → Keeps (verdict_report (tower_of_call w buffer).answer) buffer (tower_of_call w buffer).lent
@@ -35,17 +32,17 @@ pub record Refusals : Type 0 where
 
 -- ---- answers
 
-pub record DescentSet (m : ℕ) (w : List ℕ) (answer : Generators) : Type 0 where
+pub record DescentSet (m : ℕ) (w : List ℕ) (answer : Result Generators Refusal) : Type 0 where
   pub bits : ℕ
   pub size : ℕ
-  pub is : answer ≡ Set bits size
+  pub is : answer ≡ Ok (record { mask = bits; count = size })
   pub each : (i : ℕ) → Letter m i → (bits / 2 ^ (i - 1) % 2 ≡ 1) ↔ (len (product (generator m i) w) < len w)
   pub no_other : bits < 2 ^ m
   pub number : size ≡ tally (λ i. less (len (product (generator m i) w)) (len w)) (range 1 m)
   pub set_bits : size ≡ ones bits
 
-pub record WordResult (n : ℕ) (word buffer : List ℕ) (call : Outcome Counted (List ℕ)) : Type 0 where
-  pub count : call.answer ≡ Count n
+pub record WordResult (n : ℕ) (word buffer : List ℕ) (call : Outcome (Result ℕ Refusal) (List ℕ)) : Type 0 where
+  pub count : call.answer ≡ Ok n
   pub letters : take n call.lent ≡ word
   pub after : drop n call.lent ≡ drop n buffer
 

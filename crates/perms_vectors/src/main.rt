@@ -9,182 +9,149 @@
 
 #![tactic(auto)]
 
-ghost use Rattle.std.specs.Prelude.{◌≡◌, ◌≤◌, length};
-
-use perm_calls::{Counted, Generators};
-use refusals::{Refusal, Verdict};
+use refusals::Refusal;
 use std::io;
-use vector_io::print_field;
+use vector_io::{print_field, read_front};
 
-// What is read of the input: a byte, or nothing more.
+// Which call it is, in the order of its byte, from 1 on.
 #[derive(Clone, Copy)]
-enum Read {
-    Byte(u8),
-    End,
+enum Kind {
+    TowerOf,
+    ImagesOf,
+    Inverse,
+    Product,
+    Length,
+    StandardWord,
+    Descents,
 }
 
-fn read_byte(input: &mut impl io::Read) -> Read {
+// Any other byte is the last call.
+impl From<u8> for Kind {
+    fn from(byte: u8) -> Kind {
+        match byte {
+            1 => Kind::TowerOf,
+            2 => Kind::ImagesOf,
+            3 => Kind::Inverse,
+            4 => Kind::Product,
+            5 => Kind::Length,
+            6 => Kind::StandardWord,
+            _ => Kind::Descents,
+        }
+    }
+}
+
+// A call and its lists.
+#[derive(Clone, Copy)]
+struct Call<'a> {
+    kind: Kind,
+    first: &'a [u8],
+    second: &'a [u8],
+}
+
+fn read_byte(input: &mut impl io::Read) -> Option<u8> {
     let mut bytes = [0u8; 1];
-    if input.read_exact(&mut bytes).is_err() {
-        return Read::End;
-    }
-    Read::Byte(bytes[0])
+    input.read_exact(&mut bytes).ok()?;
+    Some(bytes[0])
 }
 
-// The size of a list, whose bytes are put in front.
-fn read_list(input: &mut impl io::Read, list: &mut [u8]) -> Read
-    requires { length list.old ≡ 255 }
-{
-    let Read::Byte(size) = read_byte(input) else {
-        return Read::End;
+// A list, whose bytes are put in front of the space.
+fn read_list<'a>(input: &mut impl io::Read, space: &'a mut [u8; 255]) -> Option<&'a [u8]> {
+    let size = read_byte(input)?;
+    read_front(input, usize::from(size), space)
+}
+
+// A call; one that is no product has a second list of size 0.
+fn read_call<'a>(
+    input: &mut impl io::Read,
+    first: &'a mut [u8; 255],
+    second: &'a mut [u8; 255],
+) -> Option<Call<'a>> {
+    let kind = Kind::from(read_byte(input)?);
+    let first = read_list(input, first)?;
+    let second = match kind {
+        Kind::Product => read_list(input, second)?,
+        _ => &[],
     };
-    let n = size as usize;
-    if input.read_exact(&mut list[0..n]).is_err() {
-        return Read::End;
+    Some(Call {
+        kind,
+        first,
+        second,
+    })
+}
+
+// A buffer of the size that is read; for a call that is lent none, of size 0.
+fn lend<'a>(
+    input: &mut impl io::Read,
+    kind: Kind,
+    space: &'a mut [u8; 2048],
+) -> Option<&'a mut [u8]> {
+    let mut size = [0u8; 2];
+    if !matches!(kind, Kind::Length | Kind::Descents) {
+        input.read_exact(&mut size).ok()?;
     }
-    Read::Byte(size)
+    space.get_mut(..usize::from(u16::from_le_bytes(size)))
 }
 
-// The second list of a product; of another call, one of size 0.
-fn read_second(input: &mut impl io::Read, call: u8, list: &mut [u8]) -> Read
-    requires { length list.old ≡ 255 }
-{
-    if call == 4 {
-        return read_list(input, list);
-    }
-    Read::Byte(0)
-}
-
-fn print_refusal(rt: &impl Print, why: Refusal) -> io::Result<()> {
-    print!(rt; "E")?;
-    print_field(rt, refusals::number_of(why) as u64)?;
-    print_field(rt, refusals::place_of(why) as u64)
-}
-
-fn print_verdict(rt: &impl Print, answer: Verdict) -> io::Result<()> {
-    match answer {
-        Verdict::Accepted => print!(rt; "A"),
-        Verdict::Refused(why) => print_refusal(rt, why),
-    }
-}
-
-fn print_counted(rt: &impl Print, answer: Counted) -> io::Result<()> {
-    match answer {
-        Counted::Count(n) => {
-            print!(rt; "A")?;
-            print_field(rt, n as u64)
+// The numbers that a call answers.
+fn run(call: Call, buffer: &mut [u8]) -> Result<[Option<u64>; 2], Refusal> {
+    match call.kind {
+        Kind::TowerOf => image_walk::tower_of(call.first, buffer)?,
+        Kind::ImagesOf => towers::images_of(call.first, buffer)?,
+        Kind::Inverse => towers::inverse(call.first, buffer)?,
+        Kind::Product => towers::product(call.first, call.second, buffer)?,
+        Kind::Length => return Ok([Some(tower_words::length(call.first)? as u64), None]),
+        Kind::StandardWord => return Ok([
+            Some(tower_words::standard_word(call.first, buffer)? as u64),
+            None,
+        ]),
+        Kind::Descents => {
+            let set = tower_words::descents(call.first)?;
+            return Ok([Some(set.mask), Some(u64::from(set.count))]);
         }
-        Counted::Refused(why) => print_refusal(rt, why),
     }
+    Ok([None, None])
 }
 
-fn print_generators(rt: &impl Print, answer: Generators) -> io::Result<()> {
+fn print_answer(rt: &impl Print, answer: Result<[Option<u64>; 2], Refusal>) -> io::Result<()> {
     match answer {
-        Generators::Set { mask, count } => {
+        Ok(numbers) => {
             print!(rt; "A")?;
-            print_field(rt, mask)?;
-            print_field(rt, count as u64)
+            for n in numbers.iter().flatten() {
+                print_field(rt, *n)?;
+            }
+            Ok(())
         }
-        Generators::Refused(why) => print_refusal(rt, why),
-    }
-}
-
-fn run(
-    rt: &impl Print,
-    call: u8,
-    first: &[u8],
-    second: &[u8],
-    buffer: &mut [u8],
-) -> io::Result<()> {
-    match call {
-        1 => print_verdict(rt, image_walk::tower_of(first, buffer)),
-        2 => print_verdict(rt, towers::images_of(first, buffer)),
-        3 => print_verdict(rt, towers::inverse(first, buffer)),
-        4 => print_verdict(rt, towers::product(first, second, buffer)),
-        5 => print_counted(rt, tower_words::length(first)),
-        6 => print_counted(rt, tower_words::standard_word(first, buffer)),
-        _ => print_generators(rt, tower_words::descents(first)),
+        Err(why) => print!(rt; "E {why}"),
     }
 }
 
 fn print_bytes(rt: &impl Print, bytes: &[u8]) -> io::Result<()> {
-    for i in 0..bytes.len() {
-        print_field(rt, bytes[i] as u64)?;
+    for b in bytes {
+        print_field(rt, u64::from(*b))?;
     }
     Ok(())
 }
 
-fn print_line(
-    rt: &impl Print,
-    call: u8,
-    first: &[u8],
-    second: &[u8],
-    buffer: &mut [u8],
-) -> io::Result<()> {
-    run(rt, call, first, second, buffer)?;
+fn print_line(rt: &impl Print, call: Call, buffer: &mut [u8]) -> io::Result<()> {
+    print_answer(rt, run(call, buffer))?;
     print_bytes(rt, buffer)?;
     println!(rt)
-}
-
-// The line of a call that is lent a buffer of this size.
-fn lend(rt: &impl Print, call: u8, first: &[u8], second: &[u8], size: usize) -> io::Result<()>
-    requires { size ≤ 2048 }
-{
-    let mut buffer = [170u8; 2048];
-    print_line(rt, call, first, second, &mut buffer[0..size])
-}
-
-// The line of a call whose lists are read, and whether the size of its buffer was there.
-fn line_of(
-    rt: &impl Print,
-    input: &mut impl io::Read,
-    call: u8,
-    first: &[u8],
-    second: &[u8],
-) -> io::Result<bool> {
-    if call == 5 || call == 7 {
-        lend(rt, call, first, second, 0)?;
-        return Ok(true);
-    }
-    let Read::Byte(low) = read_byte(input) else {
-        return Ok(false);
-    };
-    let Read::Byte(high) = read_byte(input) else {
-        return Ok(false);
-    };
-    let size = low as usize + 256 * high as usize;
-    if 2048 < size {
-        return Ok(false);
-    }
-    lend(rt, call, first, second, size)?;
-    Ok(true)
-}
-
-// One line, and whether there was a call.
-fn line(rt: &impl Print, input: &mut impl io::Read) -> io::Result<bool> {
-    let mut first = [0u8; 255];
-    let mut second = [0u8; 255];
-    let Read::Byte(call) = read_byte(input) else {
-        return Ok(false);
-    };
-    let Read::Byte(size) = read_list(input, &mut first) else {
-        return Ok(false);
-    };
-    let Read::Byte(second_size) = read_second(input, call, &mut second) else {
-        return Ok(false);
-    };
-    let n = size as usize;
-    let k = second_size as usize;
-    line_of(rt, input, call, &first[0..n], &second[0..k])
 }
 
 // A proved loop ends: 65,536 lines are more than are stored.
 fn main(rt: HostRuntime) -> io::Result<()> {
     let mut input = rt.stdin();
     for _ in 0..65536 {
-        if !line(&rt, &mut input)? {
+        let mut first = [0u8; 255];
+        let mut second = [0u8; 255];
+        let mut space = [170u8; 2048];
+        let Some(call) = read_call(&mut input, &mut first, &mut second) else {
             break;
-        }
+        };
+        let Some(buffer) = lend(&mut input, call.kind, &mut space) else {
+            break;
+        };
+        print_line(&rt, call, buffer)?;
     }
     Ok(())
 }

@@ -5,13 +5,13 @@ use mathlib.Core.List.{List, [], ◌++◌}
 use Prim.Native.Nat.{ℕ, ◌≤◌}
 use lib.ListN.{length, take}
 use lib.Seq.{take-append_seam}
+use Rattle.std.proofs.Common.{Ok}
 use Rattle.lists.specs.Overwrite.{overwrite}
 use Rattle.lists.proofs.Test.{same_yes, less_no}
 use Rattle.refusals.specs.Refusals.{Outcome}
 use Rattle.sheet_format.specs.Format.{decode}
 use Rattle.sheet_format.specs.declared.Header.{Header}
 use Rattle.sheet_format.specs.declared.Command.{Command}
-use Rattle.sheet_format.specs.declared.Decoded.TheVariants.{Found}
 use Rattle.operands.specs.Operands.{in_range}
 use Rattle.runner.specs.Turn.{state, ahead}
 use Rattle.runner.specs.declared.Cursor.{Cursor}
@@ -25,7 +25,7 @@ front_taken text t e = ap (λ o. take o.answer o.lent) (sym e) ∙ take-append_s
 
 module _ (s : List ℕ) (h : Header) (k : Cursor) (x : List ℕ) where
   -- a command in range stands at the cursor, and the buffer t has room for its text
-  pub text_taken : {c : Command} {next : ℕ} (t : List ℕ) {o : Outcome ℕ (List ℕ)} → decode s k.at ≡ Found c next → in_range h.rank c ≡ true
+  pub text_taken : {c : Command} {next : ℕ} (t : List ℕ) {o : Outcome ℕ (List ℕ)} → decode s k.at ≡ Ok (c, next) → in_range h.rank c ≡ true
       → length x ≡ 2880 → text_room ≤ length t → text_call s x h k t ≡ o → take o.answer o.lent ≡ text h c (state k x)
   unfolding text_call in_range_text
   text_taken t stands range four room e =

@@ -8,6 +8,8 @@ use Prim.Native.Nat.{ℕ, ◌+◌, ◌^◌, ◌≤◌, ◌<◌}
 use native.Mathlib.Omega.{arith}
 use lib.ListN.{length, take, drop, length-drop, length-append, replicate, length-replicate}
 use lib.Seq.{length-take-le, take_at, take-length, drop_at, drop-drop}
+use Rattle.std.proofs.Common.{Result, Ok, Err}
+use Rattle.std.specs.Result.{IfOk}
 use Rattle.refusals.specs.declared.Refusal.{Refusal}
 use Rattle.sheet_format.specs.Format.{header}
 use Rattle.sheet_format.specs.declared.Header.{Header}
@@ -16,7 +18,6 @@ use Rattle.sheet.specs.Check.{placed, commands}
 use Rattle.runner.specs.Run.{State, start, obey_all, obeyed}
 use Rattle.runner.specs.Turn.{state, first, begin_call, ahead}
 use Rattle.runner.specs.declared.Cursor.{Cursor}
-use Rattle.runner.specs.declared.Begun.TheVariants.{Ready, Failed}
 use Rattle.runner.proofs.Ahead.{ahead_start}
 use Rattle.runner.proofs.Beginning.{begun_ready, begun_failed}
 use Rattle.runner.proofs.Turning.{along_first, along_within}
@@ -28,7 +29,7 @@ use Rattle.program.proofs.NextText.{front_taken}
 
 module _ (s : List ℕ) {h : Header} where
   -- all commands from the start are those from the first cursor on
-  from_first : {A : Type 0} {k : Cursor} {x : List ℕ} (f : Header → List Command → State → A) → begin_call s ≡ Ready h k → x ≡ replicate 2880 0
+  from_first : {A : Type 0} {k : Cursor} {x : List ℕ} (f : Header → List Command → State → A) → begin_call s ≡ Ok (h, k) → x ≡ replicate 2880 0
       → f (header s) (commands (placed s)) start ≡ f h (ahead s k.at) (state k x)
   from_first {k = k} {x = x} f e zeros = let b = begun_ready s e in
       ap (λ g. f g (commands (placed s)) start) b.header_is
@@ -36,7 +37,7 @@ module _ (s : List ℕ) {h : Header} where
       ∙ ap (λ y. f h (ahead s 0) (state first y)) (sym zeros)
       ∙ ap (λ k. f h (ahead s k.at) (state k x)) b.first_is
 
-  pub printing_none : {k : Cursor} {x : List ℕ} → begin_call s ≡ Ready h k → x ≡ replicate 2880 0 → Printing s h k x 0
+  pub printing_none : {k : Cursor} {x : List ℕ} → begin_call s ≡ Ok (h, k) → x ≡ replicate 2880 0 → Printing s h k x 0
   unfolding printed
   printing_none {k} {x} e zeros = record {
     along = along_first e (ap length zeros ∙ length-replicate {A = ℕ} 2880 0);
@@ -92,28 +93,24 @@ module _ (s : List ℕ) {h : Header} where
         },
       )
 
-      pub printing_all : (w : Bool) → ended ≡ true → Printed s h y to n w
-      printing_all w e = let end = ap (λ b. state_left b s h to y) (sym e) ∙ run in record {
-        text = λ w. omega (arith, n_sent, sizes ∙ ap (λ b. sent + used + length (text_left b s h to y)) e);
-        run = λ w. end;
+      pub printing_all : {E : Type 0} → ended ≡ true → Printed {E = E} s h y to (Ok n)
+      printing_all e = let end = ap (λ b. state_left b s h to y) (sym e) ∙ run in record {
+        text = omega (arith, n_sent, sizes ∙ ap (λ b. sent + used + length (text_left b s h to y)) e);
+        run = end;
         left = inl end;
       }
 
-      pub printing_failed : {w : Bool} → w ≡ false → Printed s h y to n w
-      printing_failed fails = record {
-        text = λ e. let z : ◌≡◌ {A = ℕ} 0 1 = cc in absurd (omega arith);
-        run = λ e. let z : ◌≡◌ {A = ℕ} 0 1 = cc in absurd (omega arith);
-        left = either ended refl;
-      }
-        where
-          either : (b : Bool) → ended ≡ b → (state_left true s h to y ≡ obeyed s) ⊎ (state_left false s h to y ≡ obeyed s)
-          either true e = inl (ap (λ b. state_left b s h to y) (sym e) ∙ run)
-          either false e = inr (ap (λ b. state_left b s h to y) (sym e) ∙ run)
+    pub printing_failed : {E : Type 0} (why : E) → Printed {E = E} s h y to (Err why)
+    printing_failed why = record { text = tt; run = tt; left = either ended refl }
+      where
+        either : (b : Bool) → ended ≡ b → (state_left true s h to y ≡ obeyed s) ⊎ (state_left false s h to y ≡ obeyed s)
+        either true e = inl (ap (λ b. state_left b s h to y) (sym e) ∙ run)
+        either false e = inr (ap (λ b. state_left b s h to y) (sym e) ∙ run)
 
 -- ---- a refused sheet
 
 -- its line is all that is printed: n bytes of t, of which m are lent
-module _ (s b : List ℕ) {t : List ℕ} {n : ℕ} {why : Refusal} (e : begin_call s ≡ Failed why) (room : error_room ≤ length b)
+module _ (s b : List ℕ) {t : List ℕ} {n : ℕ} {why : Refusal} (e : begin_call s ≡ Err why) (room : error_room ≤ length b)
     (put : error_call why b ≡ record { answer = n; lent = t }) (m : ℕ) (same : n ≡ m) where
   refusal_is : take m t ≡ printed s
   unfolding printed error_call
@@ -123,5 +120,9 @@ module _ (s b : List ℕ) {t : List ℕ} {n : ℕ} {why : Refusal} (e : begin_ca
   pub refusal_part : PartOf s 0 (take m t)
   refusal_part = refusal_is ∙ sym (take-length (printed s)) ∙ ap (λ p. take (length p) (printed s)) (sym refusal_is)
 
-  pub refusal_size : {sent : ℕ} → sent ≡ 0 + length (take m t) → sent ≡ length (printed s)
-  refusal_size f = omega (arith, f, ap length refusal_is)
+  pub refusal_size : length (take m t) ≡ length (printed s)
+  refusal_size = ap length refusal_is
+
+  pub refusal_sent : {E : Type 0} (sent : Result ℕ E) → IfOk sent (λ n. n ≡ 0 + length (take m t)) → IfOk sent (λ n. n ≡ length (printed s))
+  refusal_sent (Ok n) e = omega (arith, e, refusal_size)
+  refusal_sent (Err why) e = tt

@@ -2,26 +2,27 @@
 --
 --   Lost a b t i    what a reader has left, where that is known, has lost the first i bytes of t: a before, b after
 use mathlib.Core.Path.{◌≡◌, sym, ap, subst, ◌∙◌}
-use mathlib.Core.Bool.{Bool}
+use mathlib.Core.Bool.{Bool, false}
 use mathlib.Core.List.{List}
 use Prim.Native.Nat.{ℕ, ◌+◌, ◌-◌, ◌≤◌}
 use native.Mathlib.Omega.{arith}
 use lib.ListN.{length, take}
 use borrow.Rule.Slice.PartMut.{mid_of, put_mid, mid_len, same_len_mid}
+use Rattle.std.proofs.Common.{Result, Ok, Err}
 use Rattle.std.specs.Prelude.{IfSome}
+use Rattle.std.specs.Result.{IsErr, IsErrAnd}
 use Rattle.std.specs.Io.KnownBytes.{Consumes}
 use Rattle.std.specs.declared.option.Option.{Option}
 use Rattle.std.specs.declared.option.Option.TheVariants.{Some, None}
-use Rattle.std.proofs.KnownBytes.{Consumes-nil, Consumes-trans}
+use Rattle.std.proofs.KnownBytes.{Consumes-trans}
 use Rattle.output.specs.Printed.{printed}
-use Rattle.program.specs.Pieces.{WritesFront}
+use Rattle.program.specs.declared.Failure.{Failure}
+use Rattle.program.specs.declared.Failure.TheVariants.{Unwritten, Unread}
+use Rattle.program.specs.Pieces.{WritesFront, Runs}
 use Rattle.program.proofs.Filling.{take_put_on}
 
 pub record Lost (a b : Option (List ℕ)) (t : List ℕ) (i : ℕ) : Type 0 where
   pub bytes : Consumes a b (take i t)
-
-pub lost_none : {a : Option (List ℕ)} {t : List ℕ} → Lost a a t 0
-lost_none {a} = record { bytes = Consumes-nil a }
 
 -- the rest of the buffer t from i on was lent to a read, which left `last` there and took n bytes
 pub lost_more : {a b c : Option (List ℕ)} {t : List ℕ} {i : ℕ} (n : ℕ) (last : List ℕ) → i ≤ length t → Lost a b t i
@@ -35,10 +36,17 @@ lost_more {a} {b} {c} {t} {i} n last inside f size bound g = (
 )
 
 -- what the first bytes print is written, or a front of it
-pub first_printed : (known : Option (List ℕ)) {old new : Option (List ℕ)} (b : List ℕ) (n m : ℕ) {w v : Bool} → length b ≡ 4097 → m ≡ n
-    → IfSome known (λ x. take n b ≡ take (length b) x) → WritesFront old new (printed (take m b)) w → w ≡ v
-    → IfSome known (λ x. WritesFront old new (printed (take 4097 x)) v)
-first_printed None b n m size is p f e = tt
-first_printed (Some x) {old = old} {new = new} b n m {w = w} size is p f e =
-    subst (λ v. WritesFront old new (printed (take 4097 x)) v) e
-    (subst (λ q. WritesFront old new (printed q) w) (ap (λ n. take n b) is ∙ p ∙ ap (λ n. take n x) size) f)
+pub first_printed : (known : Option (List ℕ)) {old new : Option (List ℕ)} (b : List ℕ) (n : ℕ) {w : Bool} → length b ≡ 4097
+    → IfSome known (λ x. take n b ≡ take (length b) x) → WritesFront old new (printed (take n b)) w
+    → IfSome known (λ x. WritesFront old new (printed (take 4097 x)) w)
+first_printed None b n size p f = tt
+first_printed (Some x) {old = old} {new = new} b n {w = w} size p f =
+    subst (λ q. WritesFront old new (printed q) w) (p ∙ ap (λ n. take n x) size) f
+
+-- r is what is answered where a write failed
+pub failed : (known : Option (List ℕ)) {old new : Option (List ℕ)} (b : List ℕ) (n : ℕ) (r : Result (Unit {0}) Failure) → length b ≡ 4097 → IsErr r
+    → IsErrAnd r (λ e. e ≡ Unwritten) → IfSome known (λ x. take n b ≡ take (length b) x) → WritesFront old new (printed (take n b)) false
+    → Runs known old new r
+failed known b n (Err Unwritten) size e is p f = first_printed known b n size p f
+failed known b n (Err Unread) size e is p f = let z : ◌≡◌ {A = ℕ} 0 1 = cc in absurd (omega arith)
+failed known b n (Ok u) size e is p f = let z : ◌≡◌ {A = ℕ} 0 1 = cc in absurd (omega arith)

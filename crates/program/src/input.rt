@@ -4,29 +4,18 @@ ghost use Rattle.program.specs.Pieces.{ReadInto, ReadFront};
 
 use std::io;
 
-// What was read.
-#[derive(Clone, Copy)]
-pub(crate) enum Input {
-    // This many bytes, at the front of the buffer.
-    Bytes(usize),
-    // A read failed.
-    Unread,
-}
-
-// Reads until the buffer is full or the input ends.
-pub(crate) fn read<R: io::Read>(input: &mut R, buffer: &mut [u8]) -> Input
+// Reads until the buffer is full or the input ends, and answers how many bytes stand at the front of the buffer.
+pub(crate) fn read<R: io::Read>(input: &mut R, buffer: &mut [u8]) -> io::Result<usize>
     ensures within { ReadInto result buffer.new }
     ensures bytes { ReadFront (R.remaining input.old) result buffer.new }
 {
     let mut done = 0;
     while done < buffer.len() {
-        let Ok(n) = input.read(&mut buffer[done..]) else {
-            return Input::Unread;
-        };
+        let n = input.read(&mut buffer[done..])?;
         if n == 0 {
-            return Input::Bytes(done);
+            return Ok(done);
         }
         done += n;
     }
-    Input::Bytes(done)
+    Ok(done)
 }

@@ -2,50 +2,56 @@
 
 #![tactic(auto)]
 
+ghost use Rattle.std.specs.Prelude.{◌≡◌};
+ghost use Rattle.program.specs.declared.Failure.TheVariants.{Unwritten};
 ghost use Rattle.program.specs.Pieces.{Runs};
 
-use input::Input;
-use std::io;
+use pieces::Unwritten;
+use std::{fmt, io};
 
 mod input;
 mod pieces;
 
-// How a run ended: with all that the sheet prints written; at a write that failed; at a read that failed, with nothing written.
+// How a run failed: at a write; or at a read, with nothing written.
 #[derive(Clone, Copy)]
-pub enum Ended {
-    Written,
+pub enum Failure {
     Unwritten,
     Unread,
 }
 
-// Runs the sheet in an input, the first 4,097 bytes of it or all, and writes what it prints.
-pub fn run<R: io::Read, W: io::Write>(input: &mut R, out: &mut W) -> Ended
+impl From<Unwritten> for Failure {
+    ghost from_gives = { λ _ failure. failure ≡ Unwritten };
+
+    fn from(_: Unwritten) -> Failure {
+        Failure::Unwritten
+    }
+}
+
+impl fmt::Display for Failure {
+    fn fmt<W: fmt::Write>(&self, f: &mut fmt::Formatter<W>) -> fmt::Result {
+        match self {
+            Failure::Unwritten => write!(f, "the output is not whole"),
+            Failure::Unread => write!(f, "standard input cannot be read"),
+        }
+    }
+}
+
+// Runs the sheet in an input, the first 4,097 bytes of it or all, and writes what it prints. It is Ok where all of that is written.
+pub fn run<R: io::Read, W: io::Write>(input: &mut R, out: &mut W) -> Result<(), Failure>
     ensures { Runs (R.remaining input.old) (W.contents out.old) (W.contents out.new) result }
 {
+    // document 01 names the buffer and its size
     let mut bytes = [0u8; 4097];
-    let sheet = input::read(input, &mut bytes);
-    match sheet {
-        Input::Bytes(n) => {
-            let handed = pieces::run(out, &bytes[0..n]);
-            if handed.written {
-                Ended::Written
-            } else {
-                Ended::Unwritten
-            }
-        }
-        Input::Unread => Ended::Unread,
-    }
+    let Ok(n) = input::read(input, &mut bytes) else {
+        return Err(Failure::Unread);
+    };
+    pieces::run(out, &bytes[..n])?;
+    Ok(())
 }
 
 // Runs the sheet in an input, and prints. Where that cannot be read, or what is printed cannot be written, it says so on standard error.
 pub fn run_input(input: &mut impl io::Read, rt: &(impl Print + Eprint)) {
-    match run(input, &mut io::writer(rt)) {
-        Ended::Written => {}
-        Ended::Unwritten => {
-            let _ = eprintln!(rt; "run_sheet: the output is not whole");
-        }
-        Ended::Unread => {
-            let _ = eprintln!(rt; "run_sheet: standard input cannot be read");
-        }
+    if let Err(failure) = run(input, &mut io::writer(rt)) {
+        let _ = eprintln!(rt; "run_sheet: {failure}");
     }
 }

@@ -7,6 +7,7 @@ ghost use Rattle.ranks.specs.Ranks.{size, scratch_size, product_count};
 
 // M, the number of words of an element of rank m; 0 above rank 6.
 // Example: an element of rank 2 has 6 words.
+#[tactic(auto, using(crate::proofs::Sizes::sizes, crate::proofs::Sizes::size_none))]
 pub fn size(m: usize) -> usize
     ensures { result ≡ size m }
 {
@@ -24,7 +25,7 @@ pub fn size(m: usize) -> usize
 
 // (m + 6) M, the number of words of scratch that a product of rank m needs; 0 above rank 6.
 // Example: a product of rank 1 needs 14.
-#[tactic(auto, using(crate::proofs::Sizes::scratch_size_none))]
+#[tactic(auto, using(crate::proofs::Sizes::scratch_size_none, crate::proofs::Sizes::scratch_fits, crate::proofs::Sizes::scratch_is))]
 pub fn scratch_size(m: usize) -> usize
     ensures { result ≡ scratch_size m }
 {
@@ -36,6 +37,7 @@ pub fn scratch_size(m: usize) -> usize
 
 // C(m, m), the ring operations of a product of rank m; 0 above rank 6.
 // Example: a product of rank 1 takes 9.
+#[tactic(auto, using(crate::proofs::Sizes::counts, crate::proofs::Sizes::product_count_none))]
 pub fn product_count(m: usize) -> u64
     ensures { result ≡ product_count m }
 {

@@ -1,55 +1,51 @@
 -- What acceptance says of verdicts that are joined, and which places and numbers refusals have. Rests on the definitions alone.
 --
 --   Near v    a refusal of the verdict v has a place of at most 4,096
-use mathlib.Core.Path.{◌≡◌, refl, ap, ap₂, ◌∙◌}
+use mathlib.Core.Path.{◌≡◌, refl, ap}
 use mathlib.Core.Bool.{Bool, true, false}
 use Prim.Native.Nat.{ℕ, ◌≤◌, ◌<◌}
 use native.Mathlib.Omega.{arith}
 use Rattle.refusals.specs.Refusals.{refusal_number, refusal_place, ◌then◌, unless, verdict_report}
 use Rattle.refusals.specs.declared.Refusal.{Refusal}
 use Rattle.refusals.specs.declared.Refusal.TheVariants.{Rank, Size, Scratch, Word, Letter, Length, Image, Entry, Buffer, Bytes, Unknown, CutOff, Order, Range, Ending, NoInverse}
-use Rattle.refusals.specs.declared.Verdict.{Verdict}
-use Rattle.refusals.specs.declared.Verdict.TheVariants.{Accepted, Refused}
+use Rattle.std.specs.Prelude.{Ok, Err}
+use Rattle.refusals.specs.Refusals.{Verdict}
 
 -- ---- acceptance
 
 -- 1 where a verdict accepts
 passes : Verdict → ℕ
-passes Accepted = 1
-passes (Refused why) = 0
+passes (Ok _) = 1
+passes (Err why) = 0
 
-pub refused_accepted : {why : Refusal} → Refused why ≡ Accepted → ⊥
+pub refused_accepted : {why : Refusal} → ◌≡◌ {A = Verdict} (Err why) (Ok tt) → ⊥
 unfolding passes
 refused_accepted e = omega (arith, ap passes e)
 
-pub accepts_first : (a b : Verdict) → (a then b) ≡ Accepted → a ≡ Accepted
-accepts_first Accepted b e = refl
-accepts_first (Refused why) b e = e
+pub accepts_first : (a b : Verdict) → (a then b) ≡ Ok tt → a ≡ Ok tt
+accepts_first (Ok _) b e = refl
+accepts_first (Err why) b e = e
 
-pub accepts_next : (a b : Verdict) → (a then b) ≡ Accepted → b ≡ Accepted
-accepts_next Accepted b e = e
-accepts_next (Refused why) b e = absurd (refused_accepted e)
+pub accepts_next : (a b : Verdict) → (a then b) ≡ Ok tt → b ≡ Ok tt
+accepts_next (Ok _) b e = e
+accepts_next (Err why) b e = absurd (refused_accepted e)
 
-pub accepts_unless : (b : Bool) (why : Refusal) → unless b why ≡ Accepted → b ≡ false
+pub accepts_unless : (b : Bool) (why : Refusal) → unless b why ≡ Ok tt → b ≡ false
 accepts_unless false why e = refl
 accepts_unless true why e = absurd (refused_accepted e)
 
-pub then_accepted : (v : Verdict) → (v then Accepted) ≡ v
-then_accepted Accepted = refl
-then_accepted (Refused why) = refl
-
--- a check r of two, a and b, that were found by x and y
-pub both : {r x y a b : Verdict} → r ≡ (x then y) → x ≡ a → y ≡ b → r ≡ (a then b)
-both e f g = e ∙ ap₂ ◌then◌ f g
+pub then_accepted : (v : Verdict) → (v then (Ok tt)) ≡ v
+then_accepted (Ok _) = refl
+then_accepted (Err why) = refl
 
 -- ---- places
 
 abbrev pub Near : Verdict → Type 0
 Near v = (verdict_report v).place ≤ 4096
 
-pub near_then : (a b : Verdict) → Near a → (a ≡ Accepted → Near b) → Near (a then b)
-near_then Accepted b h k = k refl
-near_then (Refused why) b h k = h
+pub near_then : (a b : Verdict) → Near a → (a ≡ Ok tt → Near b) → Near (a then b)
+near_then (Ok _) b h k = k refl
+near_then (Err why) b h k = h
 
 pub near_unless : (b : Bool) (why : Refusal) → (b ≡ true → refusal_place why ≤ 4096) → Near (unless b why)
 near_unless false why h = omega arith

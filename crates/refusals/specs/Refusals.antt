@@ -1,9 +1,13 @@
 -- The table of refusals, for all calls and sheets (document 01, "Where each thing is checked", and document 02, Ticket 1).
 --
 --   refusal_number, refusal_place   the table's number and place of a refusal; the place is 0 where none is named
+--   Verdict                         Ok, or Err and why something is refused
+--   Answered                        the answer of a call that counts: Ok and the answer with its count, or Err and why it is refused
 --   v then w                        the first refusal of two verdicts
 --   unless bad why                  refused if the test holds
---   accepted n, refused why         the answers of a call that counts, with the count n, or 0
+--   accepted n, refused why         the answers of a call that counts, with the count n, or refused
+--   verdict_of r                    whether what gives r is refused, and why
+--   count_of a, value_of r          the count of an answer, and the word that r gives: 0 for a refusal
 --   Report                          what an answer says: the number, 0 where nothing is refused, the place, and the count
 --   reported v n                    the report of a verdict beside a count
 --   verdict_report v                the report of a verdict alone, which counts 0
@@ -13,11 +17,9 @@
 --                                   `done` and makes it new
 --   Refuses r                       of a report: if something is refused, it counts 0; and no place is above 4,096
 --   Keeps r old new                 and if something is refused, what is lent stays as it was
-use Rattle.std.specs.Prelude.{◌≡◌, ◌≢◌, Bool, cond, ℕ, ◌≤◌}
+use Rattle.std.specs.Prelude.{◌≡◌, ◌≢◌, Bool, cond, ℕ, ◌≤◌, Result, Ok, Err}
 use Rattle.refusals.specs.declared.Refusal.{Refusal}
 use Rattle.refusals.specs.declared.Refusal.TheVariants.{Rank, Size, Scratch, Word, Letter, Length, Image, Entry, Buffer, Bytes, Unknown, CutOff, Order, Range, Ending, NoInverse}
-use Rattle.refusals.specs.declared.Verdict.{Verdict}
-use Rattle.refusals.specs.declared.Verdict.TheVariants.{Accepted, Refused}
 use Rattle.refusals.specs.declared.Answer.{Answer}
 
 abbrev pub refusal_number : Refusal → ℕ
@@ -56,21 +58,39 @@ refusal_place (Range at) = at
 refusal_place (Ending at) = at
 refusal_place (NoInverse at) = at
 
+abbrev pub Verdict : Type 0
+Verdict = Result (Unit {0}) Refusal
+
+abbrev pub Answered : Type 0
+Answered = Result Answer Refusal
+
 infixl 30 ◌then◌
 abbrev pub ◌then◌ : Verdict → Verdict → Verdict
-Accepted then next = next
-Refused why then next = Refused why
+Ok _ then next = next
+Err why then next = Err why
 
 abbrev pub unless : Bool → Refusal → Verdict
-unless bad why = cond bad (Refused why) Accepted
+unless bad why = cond bad (Err why) (Ok tt)
 
 -- ---- answers
 
-abbrev pub accepted : ℕ → Answer
-accepted n = record { verdict = Accepted; count = n }
+abbrev pub accepted : ℕ → Answered
+accepted n = Ok (record { count = n })
 
-abbrev pub refused : Refusal → Answer
-refused why = record { verdict = Refused why; count = 0 }
+abbrev pub refused : Refusal → Answered
+refused why = Err why
+
+abbrev pub verdict_of : {A : Type 0} → Result A Refusal → Verdict
+verdict_of (Ok a) = Ok tt
+verdict_of (Err why) = Err why
+
+abbrev pub count_of : Answered → ℕ
+count_of (Ok a) = a.count
+count_of (Err why) = 0
+
+abbrev pub value_of : Result ℕ Refusal → ℕ
+value_of (Ok x) = x
+value_of (Err why) = 0
 
 pub record Report : Type 0 where
   pub number : ℕ
@@ -78,14 +98,14 @@ pub record Report : Type 0 where
   pub count : ℕ
 
 abbrev pub reported : Verdict → ℕ → Report
-reported Accepted n = record { number = 0; place = 0; count = n }
-reported (Refused why) n = record { number = refusal_number why; place = refusal_place why; count = n }
+reported (Ok _) n = record { number = 0; place = 0; count = n }
+reported (Err why) n = record { number = refusal_number why; place = refusal_place why; count = n }
 
 abbrev pub verdict_report : Verdict → Report
 verdict_report v = reported v 0
 
-abbrev pub answer_report : Answer → Report
-answer_report a = reported a.verdict a.count
+abbrev pub answer_report : Answered → Report
+answer_report a = reported (verdict_of a) (count_of a)
 
 -- ---- calls
 
@@ -94,8 +114,8 @@ pub record Outcome (A B : Type 0) : Type 0 where
   pub lent : B
 
 unfoldable pub ended : {A B : Type 0} → Verdict → (Refusal → A) → A → B → B → Outcome A B
-ended Accepted refuse done old new = record { answer = done; lent = new }
-ended (Refused why) refuse done old new = record { answer = refuse why; lent = old }
+ended (Ok _) refuse done old new = record { answer = done; lent = new }
+ended (Err why) refuse done old new = record { answer = refuse why; lent = old }
 
 pub record Refuses (r : Report) : Type 0 where
   pub counts : r.number ≢ 0 → r.count ≡ 0

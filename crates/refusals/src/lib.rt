@@ -1,10 +1,12 @@
 // Document 01's table of refusals, and 15 of document 02, Ticket 1, for all calls and sheets: why something is refused, its
-// number and its place, and verdicts joined in the order of the checks.
+// number and its place, and the answers that carry it.
 
 #![tactic(auto)]
 
 ghost use Rattle.std.specs.Prelude.{◌≡◌};
-ghost use Rattle.refusals.specs.Refusals.{refusal_number, refusal_place, ◌then◌, accepted, refused};
+ghost use Rattle.refusals.specs.Refusals.{refusal_number, refusal_place, count_of};
+
+use std::fmt;
 
 // Why a call or a sheet is refused.
 #[derive(Clone, Copy)]
@@ -93,49 +95,29 @@ pub fn place_of(why: Refusal) -> usize
     }
 }
 
-// Whether what was given passes its checks. A call that writes has then written its result.
-#[derive(Clone, Copy)]
-pub enum Verdict {
-    Accepted,
-    Refused(Refusal),
+// The number and the place, as the line of a refused sheet has them.
+impl fmt::Display for Refusal {
+    fn fmt<W: fmt::Write>(&self, f: &mut fmt::Formatter<W>) -> fmt::Result {
+        write!(f, "{} {}", number_of(*self), place_of(*self))
+    }
 }
+
+// Whether what was given passes its checks. A call that writes has then written its result.
+pub type Verdict = Result<(), Refusal>;
 
 // The answer of a call that counts its ring operations.
 #[derive(Clone, Copy)]
 pub struct Answer {
-    pub verdict: Verdict,
     pub count: u64,
 }
 
-// The answer of a call that is done, with its count.
+// The ring operations of a call; a refusal counts 0.
 // Example: a sum of rank 1 counts 2.
-pub fn accepted(count: u64) -> Answer
-    ensures { result ≡ accepted count }
+pub fn count_of(answered: Result<Answer, Refusal>) -> u64
+    ensures { result ≡ count_of answered }
 {
-    Answer {
-        verdict: Verdict::Accepted,
-        count,
-    }
-}
-
-// The answer of a call that is refused, with the count 0.
-// Example: a sum of rank 7 is refused for its rank.
-pub fn refused(why: Refusal) -> Answer
-    ensures { result ≡ refused why }
-{
-    Answer {
-        verdict: Verdict::Refused(why),
-        count: 0,
-    }
-}
-
-// The first refusal of two verdicts.
-// Example: a rank that is refused, and then a size that is refused, are refused for the rank.
-pub fn then(first: Verdict, next: Verdict) -> Verdict
-    ensures { result ≡ (first then next) }
-{
-    match first {
-        Verdict::Accepted => next,
-        Verdict::Refused(why) => Verdict::Refused(why),
+    match answered {
+        Ok(answer) => answer.count,
+        Err(_) => 0,
     }
 }

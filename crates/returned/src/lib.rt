@@ -1,14 +1,12 @@
-// What a call for C and Rust returns, by the cases of its answer: one word, and words at the front of a lent answer.
+// What a call for C and Rust returns, by what it answers or why it is refused: one word, and words at the front of a lent answer.
 
-#![tactic(auto)]
+#![tactic(auto, using(crate::proofs::Told::fill_one, crate::proofs::Told::fill_two), unfolding(crate::specs::Returned::word_of))]
 
-ghost use Rattle.std.specs.Prelude.{◌≡◌, [], ◌∷◌, set};
-ghost use Rattle.refusals.specs.Refusals.{verdict_report, answer_report};
-ghost use Rattle.refusals.specs.declared.Verdict.TheVariants.{Refused};
-ghost use Rattle.perm_calls.specs.Calls.{counted_report, generators_report, generators_mask};
-ghost use Rattle.returned.specs.Returned.{word_of, returns};
+ghost use Rattle.std.specs.Prelude.{◌≡◌, ℕ, List, set};
+ghost use Rattle.refusals.specs.Refusals.{verdict_report};
+ghost use Rattle.returned.specs.Returned.{word_of, fill, number_words, count_words, set_words, returns};
 
-use perm_calls::{Counted, Generators};
+use perm_calls::Generators;
 use refusals::{Answer, Refusal, Verdict};
 
 // The word x at index i, where the answer has such a word.
@@ -20,75 +18,73 @@ fn put(answer: &mut [u64], i: usize, x: u64)
     }
 }
 
-// The number in the lowest 8 bits, and the place above them.
-fn refusal(why: Refusal) -> u64
-    ensures { result ≡ word_of (verdict_report (Refused why)) }
-{
-    refusals::number_of(why) as u64 + ((refusals::place_of(why) as u64) << 8)
+// What a call answers in words.
+pub trait Words {
+    // The words of the answer.
+    ghost words: { Self → List ℕ };
+
+    // The words at the front of the lent answer, as many as it has room for.
+    // Example: of a set with the generator 2 alone, whose words are 2 and 1, an answer of one word takes the 2.
+    fn put(self, answer: &mut [u64])
+        ensures { answer.new ≡ fill (words self) answer.old };
 }
 
-// A verdict alone.
+impl Words for u64 {
+    ghost words = { number_words };
+
+    fn put(self, answer: &mut [u64]) {
+        put(answer, 0, self)
+    }
+}
+
+impl Words for usize {
+    ghost words = { number_words };
+
+    fn put(self, answer: &mut [u64]) {
+        put(answer, 0, self as u64)
+    }
+}
+
+impl Words for Answer {
+    ghost words = { count_words };
+
+    fn put(self, answer: &mut [u64]) {
+        put(answer, 0, self.count)
+    }
+}
+
+impl Words for Generators {
+    ghost words = { set_words };
+
+    fn put(self, answer: &mut [u64]) {
+        put(answer, 0, self.mask);
+        put(answer, 1, u64::from(self.count))
+    }
+}
+
+// 0 where nothing is refused; else the number in the lowest 8 bits, and the place above them.
 // Example: for an image at index 1 that is refused it returns 6 + 256.
-pub fn verdict(verdict: Verdict) -> u64
+pub fn word(verdict: Verdict) -> u64
     ensures { result ≡ word_of (verdict_report verdict) }
 {
     match verdict {
-        Verdict::Accepted => 0,
-        Verdict::Refused(why) => refusal(why),
+        Ok(()) => 0,
+        Err(why) => {
+            u64::from(refusals::number_of(why)) + ((refusals::place_of(why) as u64) << 8)
+        }
     }
 }
 
-// A number, as the answer.
+// The word, and what a call answers at the front of the answer; a refusal leaves the answer as it was.
 // Example: for the length 2 it returns 0 and answers 2.
-pub fn counted(counted: Counted, answer: &mut [u64]) -> u64
-    ensures { returns (counted_report counted) ((counted_report counted).count ∷ []) answer.old
-        ≡ record { word = result; lent = answer.new } }
+pub fn returned<T: Words>(answered: Result<T, Refusal>, answer: &mut [u64]) -> u64
+    ensures { returns T.words answered answer.old ≡ record { word = result; lent = answer.new } }
 {
-    match counted {
-        Counted::Count(n) => {
-            put(answer, 0, n as u64);
+    match answered {
+        Ok(x) => {
+            x.put(answer);
             0
         }
-        Counted::Refused(why) => refusal(why),
+        Err(why) => word(Err(why)),
     }
-}
-
-// A set of generators: the answer is its mask and the number of its set bits.
-// Example: for the generator 2 alone it returns 0 and answers 2 1.
-pub fn generators(generators: Generators, answer: &mut [u64]) -> u64
-    ensures { returns (generators_report generators) (generators_mask generators ∷ (generators_report generators).count ∷ []) answer.old
-        ≡ record { word = result; lent = answer.new } }
-{
-    match generators {
-        Generators::Set { mask, count } => {
-            put(answer, 0, mask);
-            put(answer, 1, count as u64);
-            0
-        }
-        Generators::Refused(why) => refusal(why),
-    }
-}
-
-// A verdict, and a value as the answer.
-// Example: for a pairing that is accepted, of value 3, it returns 0 and answers 3.
-pub fn valued(verdict: Verdict, value: u64, answer: &mut [u64]) -> u64
-    ensures { returns (verdict_report verdict) (value ∷ []) answer.old ≡ record { word = result; lent = answer.new } }
-{
-    match verdict {
-        Verdict::Accepted => {
-            put(answer, 0, value);
-            0
-        }
-        Verdict::Refused(why) => refusal(why),
-    }
-}
-
-// A verdict with its count, which is the answer.
-// Example: for a sum of rank 1, which counts 2, it returns 0 and answers 2.
-pub fn answered(answered: Answer, answer: &mut [u64]) -> u64
-    ensures { returns (answer_report answered) ((answer_report answered).count ∷ []) answer.old
-        ≡ record { word = result; lent = answer.new } }
-{
-    let verdict = answered.verdict;
-    valued(verdict, answered.count, answer)
 }

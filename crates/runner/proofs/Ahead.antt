@@ -8,7 +8,6 @@ use Prim.Native.Nat.{ℕ, zero, suc, ◌-◌, ◌≤◌, ◌<◌}
 use native.Mathlib.Omega.{arith}
 use lib.ListN.{length}
 use Rattle.lists.specs.Lists.{All}
-use Rattle.refusals.specs.declared.Verdict.TheVariants.{Accepted}
 use Rattle.sheet_format.specs.Format.{header}
 use Rattle.sheet_format.specs.declared.Command.{Command}
 use Rattle.sheet_format.proofs.Offsets.{found_within}
@@ -20,6 +19,7 @@ use Rattle.sheet.proofs.Limit.{placed_enough}
 use Rattle.sheet.proofs.CheckFrom.{check_from}
 use Rattle.sheet.proofs.Accepted.{Next, accepted_start, accepted_next}
 use Rattle.runner.specs.Turn.{ahead}
+use Rattle.std.proofs.Common.{Ok}
 
 module _ (s : List ℕ) where
   pub ahead_start : ahead s 0 ≡ commands (placed s)
@@ -37,11 +37,11 @@ module _ (s : List ℕ) where
         rw (n.stands, e) (ap {B = List Command} (λ ps. n.command ∷ commands ps)
         (placed_enough (length s - at) (suc (length s - n.after)) s n.after (omega (arith, w)) (omega arith)))
 
-  pub rank_low : check_sheet s ≡ Accepted → (header s).rank ≤ 5
+  pub rank_low : check_sheet s ≡ Ok tt → (header s).rank ≤ 5
   rank_low a = let n = accepted_next s 0 (accepted_start s a).2 in
       low (header s).rank n.command (in_range_lem (header s) n.command n.runs)
 
-  may_run_from : (k at : ℕ) → length s - at < k → check_from s at ≡ Accepted → All (λ c. may_run (header s) c ≡ true) (ahead s at)
+  may_run_from : (k at : ℕ) → length s - at < k → check_from s at ≡ Ok tt → All (λ c. may_run (header s) c ≡ true) (ahead s at)
   may_run_from zero at h a = absurd (omega arith)
   may_run_from (suc k) at h a =
       let n = accepted_next s at a in
@@ -49,5 +49,5 @@ module _ (s : List ℕ) where
       ⊎_elim (λ l. rw (ahead_last at n l.0) (n.runs, tt))
       (λ l. rw (ahead_next at n l.0) (n.runs, may_run_from k n.after (omega (arith, w)) l.1)) n.rest
 
-  pub all_may_run : check_sheet s ≡ Accepted → All (λ c. may_run (header s) c ≡ true) (commands (placed s))
+  pub all_may_run : check_sheet s ≡ Ok tt → All (λ c. may_run (header s) c ≡ true) (commands (placed s))
   all_may_run a = rw (ahead_start) at (may_run_from (suc (length s)) 0 (omega arith) (accepted_start s a).2)

@@ -8,9 +8,7 @@ use lib.ListN.{length, drop, replicate, length-drop, length-replicate, get_or-re
 use lib.Seq.{length-take-le, get_or-take, get_or-drop, ext_get_or}
 use Rattle.lists.specs.Lists.{same}
 use Rattle.lists.proofs.Test.{less_no}
-use Rattle.refusals.specs.Refusals.{◌then◌, unless, answer_report, Refuses, Keeps}
-use Rattle.refusals.specs.declared.Verdict.{Verdict}
-use Rattle.refusals.specs.declared.Verdict.TheVariants.{Accepted, Refused}
+use Rattle.refusals.specs.Refusals.{Verdict, ◌then◌, unless, answer_report, Refuses, Keeps}
 use Rattle.refusals.specs.declared.Refusal.TheVariants.{Buffer}
 use Rattle.refusals.proofs.Verdicts.{Near, near_then, near_unless}
 use Rattle.refusals.proofs.Ended.{ended_keeps}
@@ -25,6 +23,7 @@ use Rattle.runner.specs.Runs.{M, Runs}
 use Rattle.runner.proofs.Ahead.{rank_low, all_may_run}
 use Rattle.runner.proofs.Running.{turns_end}
 use Rattle.runner.proofs.Kept.{Kept, kept_zeros, kept_all}
+use Rattle.std.proofs.Common.{Ok, Err}
 
 module _ {M : ℕ} {x : List ℕ} (k : Kept M x) (r : ℕ) (four : r < 4) where
   register_size : length (register r x) ≡ 720
@@ -43,8 +42,8 @@ module _ {M : ℕ} {x : List ℕ} (k : Kept M x) (r : ℕ) (four : r < 4) where
       ∙ sym (get_or-replicate (720 - M) i 0 0 (omega arith)))
 
 kept : (s : List ℕ) (v : Verdict) → check_sheet s ≡ v → Kept (M s) (ran v s).contents
-kept s (Refused why) e = kept_zeros (M s)
-kept s Accepted e = let low = rank_low s e in
+kept s (Err why) e = kept_zeros (M s)
+kept s (Ok _) e = let low = rank_low s e in
     rw (less_no {x = 5} {a = (header s).rank} low, size_is (header s).rank (omega arith))
     (kept_all (header s) (commands (placed s)) start (all_may_run s e) (kept_zeros _))
 
@@ -56,15 +55,15 @@ keeps s x =
     (near_then (check_sheet s) (unless four Buffer) (exactly s).report.near (λ e. near_unless four Buffer (λ t. omega arith)))
 
 reports : (s : List ℕ) (v : Verdict) → check_sheet s ≡ v → Near v → Refuses (finished_report (given v (ran v s)))
-reports s Accepted e h = record { counts = λ d. absurd (d refl); near = h }
-reports s (Refused why) e h = record { counts = λ d. refl; near = h }
+reports s (Ok _) e h = record { counts = λ d. absurd (d refl); near = h }
+reports s (Err why) e h = record { counts = λ d. refl; near = h }
 
 begins : (s : List ℕ) (v : Verdict) → Near v → Refuses (begun_report (begun_for v s))
-begins s Accepted h = record { counts = λ d. absurd (d refl); near = h }
-begins s (Refused why) h = record { counts = λ d. refl; near = h }
+begins s (Ok _) h = record { counts = λ d. absurd (d refl); near = h }
+begins s (Err why) h = record { counts = λ d. refl; near = h }
 
 -- the count of the last cursor is that of the whole sheet
-word : (s : List ℕ) → check_sheet s ≡ Accepted → (obeyed s).count < 2 ^ 64
+word : (s : List ℕ) → check_sheet s ≡ Ok tt → (obeyed s).count < 2 ^ 64
 word s a = let t = turns_end s a (replicate 2880 0) (length-replicate {A = ℕ} 2880 0) in omega (arith, t.word, ap (λ o. o.count) t.is)
 
 pub runs : (s : List ℕ) → Runs s

@@ -12,12 +12,10 @@ use native.Mathlib.Omega.{arith}
 use lib.ListN.{length}
 use Rattle.lists.proofs.Test.{same_yes, less_yes}
 use Rattle.refusals.specs.Refusals.{Outcome}
-use Rattle.refusals.specs.declared.Verdict.TheVariants.{Accepted}
 use Rattle.sheet_format.specs.Format.{decode}
 use Rattle.sheet_format.specs.declared.Header.{Header}
 use Rattle.sheet_format.specs.declared.Command.{Command}
 use Rattle.sheet_format.specs.declared.Command.TheVariants.{End, Begin, Change, Show}
-use Rattle.sheet_format.specs.declared.Decoded.TheVariants.{Found}
 use Rattle.sheet_format.proofs.Offsets.{found_within}
 use Rattle.operands.specs.Operands.{in_range, may_run}
 use Rattle.operands.proofs.InRange.{low}
@@ -27,20 +25,18 @@ use Rattle.sheet.proofs.CheckFrom.{check_from}
 use Rattle.sheet.proofs.Accepted.{Next, accepted_start, accepted_next}
 use Rattle.costs.specs.Costs.{cost}
 use Rattle.costs.proofs.Costs.{cost_small}
-use Rattle.machine.specs.Step.{obey}
+use Rattle.machine.specs.Step.{obey, not_obeyed}
 use Rattle.runner.specs.Run.{after}
-use Rattle.runner.specs.Turn.{state, begin_call, fits, obeys, moved, onward, turn_call, ahead, Along}
+use Rattle.runner.specs.Turn.{state, begin_call, fits, obeys, moved, onward, Turned, turn_call, ahead, Along}
 use Rattle.runner.specs.declared.Cursor.{Cursor}
-use Rattle.runner.specs.declared.Begun.TheVariants.{Ready}
-use Rattle.runner.specs.declared.Turned.{Turned}
-use Rattle.runner.specs.declared.Turned.TheVariants.{On, NotObeyed}
 use Rattle.runner.proofs.Ahead.{ahead_last, ahead_next}
 use Rattle.runner.proofs.Beginning.{begun_ready}
 use Rattle.runner.proofs.Puts.{obey_size}
+use Rattle.std.proofs.Common.{Some, Ok}
 
 pub record Goes (s : List ℕ) (h : Header) (k : Cursor) (x : List ℕ) (next : Cursor) (y : List ℕ) : Type 0 where
   pub command : Command
-  pub stands : decode s k.at ≡ Found command next.at
+  pub stands : decode s k.at ≡ Ok (command, next.at)
   pub range : in_range h.rank command ≡ true
   pub on : k.at < next.at
   pub ahead_is : ahead s k.at ≡ command ∷ ahead s next.at
@@ -50,7 +46,7 @@ pub record Goes (s : List ℕ) (h : Header) (k : Cursor) (x : List ℕ) (next : 
 pub record Ends (s : List ℕ) (h : Header) (k : Cursor) (x y : List ℕ) : Type 0 where
   pub command : Command
   pub next : ℕ
-  pub stands : decode s k.at ≡ Found command next
+  pub stands : decode s k.at ≡ Ok (command, next)
   pub range : in_range h.rank command ≡ true
   pub ahead_is : ahead s k.at ≡ command ∷ []
   pub made : after h command (state k x) ≡ state k y
@@ -63,7 +59,7 @@ end_costs m n (Change u) t = let z : ◌≡◌ {A = ℕ} 0 1 = cc in absurd (ome
 end_costs m n (Show w) t = let z : ◌≡◌ {A = ℕ} 0 1 = cc in absurd (omega arith)
 
 module _ {s : List ℕ} {h : Header} {k : Cursor} {x : List ℕ} where
-  pub along_first : begin_call s ≡ Ready h k → length x ≡ 2880 → Along s h k x
+  pub along_first : begin_call s ≡ Ok (h, k) → length x ≡ 2880 → Along s h k x
   along_first e four = let b = begun_ready s e in let start = accepted_start s b.accepted in record {
     header_is = sym b.header_is;
     short = start.1;
@@ -94,20 +90,20 @@ module _ {s : List ℕ} {h : Header} {k : Cursor} {x : List ℕ} where
     few : k.count + cost h.rank c ≤ 2027640 * next.after
     few = omega (arith, a.few, within.0, cost_small h.rank c (low h.rank c range))
 
-    made : turn_call s h k x ≡ record { answer = onward c (moved h k c next.after); lent = obey h c x }
+    made : turn_call s h k x ≡ record { answer = Ok (onward c (moved h k c next.after)); lent = obey h c x }
     unfolding turn_call obeys fits
     made = rw (next.stands, runs, same_yes a.four, less_yes {x = k.count + cost h.rank c} {a = 2 ^ 64} (omega (arith, few, a.short, within))) refl
 
-    turn_is : {o : Outcome Turned (List ℕ)} → turn_call s h k x ≡ o → record { answer = onward c (moved h k c next.after); lent = obey h c x } ≡ o
+    turn_is : {o : Outcome Turned (List ℕ)} → turn_call s h k x ≡ o → record { answer = Ok (onward c (moved h k c next.after)); lent = obey h c x } ≡ o
     turn_is e = sym made ∙ e
 
-    pub turn_goes : {to : Cursor} {y : List ℕ} → turn_call s h k x ≡ record { answer = On to; lent = y } → Goes s h k x to y
+    pub turn_goes : {to : Cursor} {y : List ℕ} → turn_call s h k x ≡ record { answer = Ok (Some to); lent = y } → Goes s h k x to y
     turn_goes {to} {y} e = ⊎_elim (λ l. absurd (ended l.0)) (λ l. goes l.0 l.1) next.rest
       where
         ended : is_end c ≡ true → ⊥
         ended t = let f = ap (λ o. o.answer) (turn_is e) in let z : ◌≡◌ {A = ℕ} 0 1 = cc (rw t at f) in omega arith
 
-        goes : is_end c ≡ false → check_from s next.after ≡ Accepted → Goes s h k x to y
+        goes : is_end c ≡ false → check_from s next.after ≡ Ok tt → Goes s h k x to y
         goes t acc =
             let f = ap (λ o. o.answer) (turn_is e) in
             let to_is : moved h k c next.after ≡ to = cc (rw t at f) in
@@ -115,7 +111,7 @@ module _ {s : List ℕ} {h : Header} {k : Cursor} {x : List ℕ} where
             let at_is : next.after ≡ to.at = ap (λ k. k.at) to_is in
             record {
               command = c;
-              stands = next.stands ∙ ap (Found c) at_is;
+              stands = next.stands ∙ ap (λ n. Ok (c, n)) at_is;
               range = range;
               on = omega (arith, within.0, at_is);
               ahead_is = ahead_next s k.at next t ∙ ap (λ n. c ∷ ahead s n) at_is;
@@ -129,7 +125,7 @@ module _ {s : List ℕ} {h : Header} {k : Cursor} {x : List ℕ} where
               };
             }
 
-    pub turn_ends : {o : Turned} {y : List ℕ} → turn_call s h k x ≡ record { answer = o; lent = y } → ((to : Cursor) → o ≡ On to → ⊥) → Ends s h k x y
+    pub turn_ends : {o : Turned} {y : List ℕ} → turn_call s h k x ≡ record { answer = o; lent = y } → ((to : Cursor) → o ≡ Ok (Some to) → ⊥) → Ends s h k x y
     turn_ends {o} {y} e stays = ⊎_elim (λ l. ends l.0) (λ l. absurd (goes l.0)) next.rest
       where
         goes : is_end c ≡ false → ⊥
@@ -147,6 +143,6 @@ module _ {s : List ℕ} {h : Header} {k : Cursor} {x : List ℕ} where
               made = λ i. record { contents = y_is i; count = end_costs h.rank k.count c t i };
             }
 
-    pub turn_obeyed : {y : List ℕ} → turn_call s h k x ≡ record { answer = NotObeyed; lent = y } → ⊥
+    pub turn_obeyed : {y : List ℕ} → turn_call s h k x ≡ record { answer = not_obeyed; lent = y } → ⊥
     turn_obeyed e = let f = ap (λ o. o.answer) (turn_is e) in
         ⊎_elim (λ l. let z : ◌≡◌ {A = ℕ} 0 1 = cc (rw l.0 at f) in omega arith) (λ l. let z : ◌≡◌ {A = ℕ} 0 1 = cc (rw l.0 at f) in omega arith) next.rest

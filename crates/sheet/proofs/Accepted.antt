@@ -10,29 +10,28 @@ use lib.ListN.{length}
 use Rattle.lists.specs.Lists.{less}
 use Rattle.lists.proofs.Test.{less_false, SameView, is, isnt, same?, LessView, lt, ge, less?, same_yes, same_no, less_yes, less_no}
 use Rattle.refusals.specs.declared.Refusal.TheVariants.{Bytes, Ending}
-use Rattle.refusals.specs.declared.Verdict.TheVariants.{Accepted, Refused}
 use Rattle.refusals.proofs.Verdicts.{refused_accepted, accepts_unless}
 use Rattle.sheet_format.specs.Format.{decode, header}
 use Rattle.sheet_format.specs.declared.Command.{Command}
 use Rattle.sheet_format.specs.declared.Command.TheVariants.{End}
-use Rattle.sheet_format.specs.declared.Decoded.TheVariants.{Found}
 use Rattle.sheet_format.proofs.Offsets.{found_within}
 use Rattle.operands.specs.Operands.{may_run}
 use Rattle.operands.proofs.Allowed.{may_run_lem}
 use Rattle.sheet.specs.Check.{is_end, check_sheet}
 use Rattle.sheet.proofs.CheckFrom.{check_from, from_start, stands}
 use Rattle.sheet.proofs.Cases.{Kind, nothing, unknown, short, disordered, outside, lacking, end, on, kind?, order_fails, range_fails, inverse_fails, taken_on, taken_end}
+use Rattle.std.proofs.Common.{Ok, Err}
 
 -- ---- from an offset on
 
 pub record Next (s : List ℕ) (at : ℕ) : Type 0 where
   pub command : Command
   pub after : ℕ
-  pub stands : decode s at ≡ Found command after
+  pub stands : decode s at ≡ Ok (command, after)
   pub runs : may_run (header s) command ≡ true
-  pub rest : ((is_end command ≡ true) × (after ≡ length s)) ⊎ ((is_end command ≡ false) × (check_from s after ≡ Accepted))
+  pub rest : ((is_end command ≡ true) × (after ≡ length s)) ⊎ ((is_end command ≡ false) × (check_from s after ≡ Ok tt))
 
-pub accepted_next : (s : List ℕ) (at : ℕ) → check_from s at ≡ Accepted → Next s at
+pub accepted_next : (s : List ℕ) (at : ℕ) → check_from s at ≡ Ok tt → Next s at
 accepted_next s at a = go (kind? s at)
   where
     go : Kind s at → Next s at
@@ -60,7 +59,7 @@ pub sized : (s : List ℕ) → 0 < length s → length s ≤ 4096 → check_shee
 unfolding check_sheet
 sized s l m = rw (same_no {x = length s} {a = 0} (λ e. omega arith), less_no m) (sym (from_start s))
 
-pub missized : (s : List ℕ) → (length s ≡ 0) ⊎ (4096 < length s) → check_sheet s ≡ Refused Bytes
+pub missized : (s : List ℕ) → (length s ≡ 0) ⊎ (4096 < length s) → check_sheet s ≡ Err Bytes
 unfolding check_sheet
 missized s (inl e) = rw (same_yes e) refl
 missized s (inr h) = rw (same_no {x = length s} {a = 0} (λ e. omega arith), less_yes h) refl
@@ -73,6 +72,6 @@ size? s = go (same? (length s) 0) (less? 4096 (length s))
     go (isnt n e) (lt h f) = inl (inr h)
     go (isnt n e) (ge h f) = inr (omega arith, h)
 
-pub accepted_start : (s : List ℕ) → check_sheet s ≡ Accepted → (0 < length s) × (length s ≤ 4096) × (check_from s 0 ≡ Accepted)
+pub accepted_start : (s : List ℕ) → check_sheet s ≡ Ok tt → (0 < length s) × (length s ≤ 4096) × (check_from s 0 ≡ Ok tt)
 accepted_start s a =
     ⊎_elim (λ h. absurd (refused_accepted (sym (missized s h) ∙ a))) (λ h. (h.0, h.1, sym (sized s h.0 h.1) ∙ a)) (size? s)

@@ -10,12 +10,10 @@ use Prim.Native.Nat.{ℕ, ◌≤◌, ◌<◌}
 use native.Mathlib.Omega.{arith}
 use Rattle.lists.specs.Lists.{bit}
 use Rattle.refusals.specs.declared.Refusal.TheVariants.{Order, Range, NoInverse}
-use Rattle.refusals.specs.declared.Verdict.TheVariants.{Refused}
 use Rattle.sheet_format.specs.Format.{decode, begun, header_of, header}
 use Rattle.sheet_format.specs.declared.Update.TheVariants.{InverseLetter}
 use Rattle.sheet_format.specs.declared.Command.{Command}
 use Rattle.sheet_format.specs.declared.Command.TheVariants.{End, Begin, Change, Show}
-use Rattle.sheet_format.specs.declared.Decoded.TheVariants.{Found}
 use Rattle.operands.specs.Operands.{in_range}
 use Rattle.operands.specs.Bounds.{Begins, Bounds}
 use Rattle.operands.proofs.InRange.{within, in_range_lem}
@@ -27,6 +25,7 @@ use Rattle.sheet.proofs.Tests.{fails, fails_not}
 use Rattle.sheet.proofs.CheckFrom.{check_from}
 use Rattle.sheet.proofs.InOrder.{ordered, in_order_lem}
 use Rattle.sheet.proofs.Cases.{Taken, order_fails, range_fails, inverse_fails}
+use Rattle.std.proofs.Common.{Ok, Err}
 
 abbrev pub Begun : List ℕ → ℕ → Type 0
 Begun s at = 0 < at → (header s).rank ≤ 5
@@ -45,19 +44,19 @@ goes_on (Show w) n = refl
 -- ---- a good command
 
 -- a begin command in order names the rank of the sheet
-named : {c : Command} {after : ℕ} (s : List ℕ) (at : ℕ) → decode s at ≡ Found c after → Ordered at c
+named : {c : Command} {after : ℕ} (s : List ℕ) (at : ℕ) → decode s at ≡ Ok (c, after) → Ordered at c
     → Begins c → (begun c).rank ≡ (header s).rank
 unfolding header
-named {c} {after} s at d o b = ap (λ d. (header_of d).rank) (sym (subst (λ a. decode s a ≡ Found c after) (o.1 b) d))
+named {c} {after} s at d o b = ap (λ d. (header_of d).rank) (sym (subst (λ a. decode s a ≡ Ok (c, after)) (o.1 b) d))
 
-rank_low : {after : ℕ} (c : Command) (s : List ℕ) (at : ℕ) → decode s at ≡ Found c after → Ordered at c → Bounds (header s).rank c → Begun s at
+rank_low : {after : ℕ} (c : Command) (s : List ℕ) (at : ℕ) → decode s at ≡ Ok (c, after) → Ordered at c → Bounds (header s).rank c → Begun s at
     → (header s).rank ≤ 5
 rank_low End s at d o w b = b (omega (arith, o.0))
 rank_low (Begin h) s at d o w b = omega (arith, named s at d o tt, w)
 rank_low (Change u) s at d o w b = b (omega (arith, o.0))
 rank_low (Show k) s at d o w b = b (omega (arith, o.0))
 
-ranged : {after : ℕ} (c : Command) (s : List ℕ) (at : ℕ) → decode s at ≡ Found c after → Ordered at c → Begun s at → Bounds (header s).rank c
+ranged : {after : ℕ} (c : Command) (s : List ℕ) (at : ℕ) → decode s at ≡ Ok (c, after) → Ordered at c → Begun s at → Bounds (header s).rank c
     → in_range (header s).rank c ≡ true
 ranged c s at d o b w = in_range_lem (header s).rank c (rank_low c s at d o w b) (named s at d o) w
 
@@ -83,10 +82,10 @@ module _ {s : List ℕ} {at : ℕ} {c : Command} {after : ℕ} where
 
   -- ---- a command that fails a test
 
-  pub out_of_order : decode s at ≡ Found c after → in_order at c ≡ false → OutOfOrder s at
+  pub out_of_order : decode s at ≡ Ok (c, after) → in_order at c ≡ false → OutOfOrder s at
   out_of_order d o = record { link = record { command = c; after = after }; stands = d; order = fails_not (in_order_lem at c) o }
 
-  pub out_of_range : decode s at ≡ Found c after → in_order at c ≡ true → in_range (header s).rank c ≡ false → Begun s at → OutOfRange s at
+  pub out_of_range : decode s at ≡ Ok (c, after) → in_order at c ≡ true → in_range (header s).rank c ≡ false → Begun s at → OutOfRange s at
   out_of_range d o r b = record {
     link = record { command = c; after = after };
     stands = d;
@@ -94,7 +93,7 @@ module _ {s : List ℕ} {at : ℕ} {c : Command} {after : ℕ} where
     range = fails_not (ranged c s at d (ordered at c o) b) r;
   }
 
-pub uninvertible : {s : List ℕ} {at : ℕ} {after : ℕ} (c : Command) → decode s at ≡ Found c after → in_order at c ≡ true → in_range (header s).rank c ≡ true
+pub uninvertible : {s : List ℕ} {at : ℕ} {after : ℕ} (c : Command) → decode s at ≡ Ok (c, after) → in_order at c ≡ true → in_range (header s).rank c ≡ true
     → Lacks (header s).q c → Uninvertible s at
 uninvertible {s} {at} {after} c d o r (lack register letter even) = record {
   register = register;
@@ -106,14 +105,14 @@ uninvertible {s} {at} {after} c d o r (lack register letter even) = record {
   even = even;
 }
 
-pub order_refused : (s : List ℕ) (at : ℕ) → OutOfOrder s at → check_from s at ≡ Refused (Order at)
+pub order_refused : (s : List ℕ) (at : ℕ) → OutOfOrder s at → check_from s at ≡ Err (Order at)
 order_refused s at x = order_fails s at x.stands (fails (ordered at x.link.command) x.order)
 
-pub range_refused : (s : List ℕ) (at : ℕ) → OutOfRange s at → check_from s at ≡ Refused (Range at)
+pub range_refused : (s : List ℕ) (at : ℕ) → OutOfRange s at → check_from s at ≡ Err (Range at)
 range_refused s at x = let c = x.link.command in
     range_fails s at x.stands (in_order_lem at c x.order) (fails (λ e. within (header s).rank c e refl) x.range)
 
-pub inverse_refused : (s : List ℕ) (at : ℕ) → Uninvertible s at → Begun s at → check_from s at ≡ Refused (NoInverse at)
+pub inverse_refused : (s : List ℕ) (at : ℕ) → Uninvertible s at → Begun s at → check_from s at ≡ Err (NoInverse at)
 inverse_refused s at x b =
     inverse_fails s at x.stands (in_order_lem at (Change (InverseLetter x.register x.letter)) x.order) (ranged _ s at x.stands x.order b x.range)
     (lacks_even (header s).q x.register x.letter x.even)

@@ -5,42 +5,46 @@
 --                        without the inverse that it needs, the end, another one
 --   kind? s at           which of these it is
 use mathlib.Core.Path.{◌≡◌, refl, ◌∙◌}
-use mathlib.Core.Bool.{Bool, true, false}
+use mathlib.Core.Bool.{Bool, true, false, cond}
 use mathlib.Core.List.{List}
 use Prim.Native.Nat.{ℕ}
 use lib.ListN.{length}
 use Rattle.lists.specs.Lists.{less}
 use Rattle.refusals.specs.Refusals.{unless}
+use Rattle.refusals.specs.declared.Refusal.{Refusal}
 use Rattle.refusals.specs.declared.Refusal.TheVariants.{Order, Range, Ending, NoInverse}
-use Rattle.refusals.specs.declared.Verdict.TheVariants.{Refused}
-use Rattle.sheet_format.specs.Format.{decode, header}
+use Rattle.sheet_format.specs.Format.{Decoded, decode, header}
 use Rattle.sheet_format.specs.declared.Command.{Command}
 use Rattle.sheet_format.specs.declared.Command.TheVariants.{End, Begin, Change, Show}
-use Rattle.sheet_format.specs.declared.Decoded.{Decoded}
-use Rattle.sheet_format.specs.declared.Decoded.TheVariants.{Found, NoCommand, Short, Nothing}
+use Rattle.sheet_format.specs.declared.Missing.TheVariants.{NoCommand, Short, Nothing}
 use Rattle.operands.specs.Operands.{in_range, invertible}
 use Rattle.sheet.specs.Check.{is_end, in_order}
 use Rattle.sheet.specs.Steps.{judged_command}
-use Rattle.sheet.proofs.CheckFrom.{check_from, stands}
+use Rattle.sheet.proofs.CheckFrom.{check_from, follow, stands}
+use Rattle.std.proofs.Common.{None, Ok, Err}
 
 pub record Taken (s : List ℕ) (at : ℕ) (c : Command) (after : ℕ) : Type 0 where
-  pub stands : decode s at ≡ Found c after
+  pub stands : decode s at ≡ Ok (c, after)
   pub order : in_order at c ≡ true
   pub range : in_range (header s).rank c ≡ true
   pub inverse : invertible (header s).q c ≡ true
 
+at_end : (s : List ℕ) (why : Refusal) (b : Bool) → follow s (cond b (Err why) (Ok None)) ≡ unless b why
+at_end s why true = refl
+at_end s why false = refl
+
 module _ {c : Command} {after : ℕ} (s : List ℕ) (at : ℕ) where
-  pub order_fails : decode s at ≡ Found c after → in_order at c ≡ false → check_from s at ≡ Refused (Order at)
+  pub order_fails : decode s at ≡ Ok (c, after) → in_order at c ≡ false → check_from s at ≡ Err (Order at)
   unfolding judged_command
   order_fails d o = stands s at d ∙ rw o refl
 
-  pub range_fails : decode s at ≡ Found c after → in_order at c ≡ true → in_range (header s).rank c ≡ false
-      → check_from s at ≡ Refused (Range at)
+  pub range_fails : decode s at ≡ Ok (c, after) → in_order at c ≡ true → in_range (header s).rank c ≡ false
+      → check_from s at ≡ Err (Range at)
   unfolding judged_command
   range_fails d o r = stands s at d ∙ rw (o, r) refl
 
-  pub inverse_fails : decode s at ≡ Found c after → in_order at c ≡ true → in_range (header s).rank c ≡ true → invertible (header s).q c ≡ false
-      → check_from s at ≡ Refused (NoInverse at)
+  pub inverse_fails : decode s at ≡ Ok (c, after) → in_order at c ≡ true → in_range (header s).rank c ≡ true → invertible (header s).q c ≡ false
+      → check_from s at ≡ Err (NoInverse at)
   unfolding judged_command
   inverse_fails d o r v = stands s at d ∙ rw (o, r, v) refl
 
@@ -50,15 +54,15 @@ module _ {c : Command} {after : ℕ} (s : List ℕ) (at : ℕ) where
 
   pub taken_end : Taken s at c after → is_end c ≡ true → check_from s at ≡ unless (less after (length s)) (Ending after)
   unfolding judged_command
-  taken_end t e = stands s at t.stands ∙ rw (t.order, t.range, t.inverse, e) refl
+  taken_end t e = stands s at t.stands ∙ rw (t.order, t.range, t.inverse, e) (at_end s (Ending after) (less after (length s)))
 
 pub data Kind (s : List ℕ) (at : ℕ) : Type 0 where
-  nothing : decode s at ≡ Nothing → Kind s at
-  unknown : decode s at ≡ NoCommand → Kind s at
-  short : decode s at ≡ Short → Kind s at
-  disordered : (c : Command) (after : ℕ) → decode s at ≡ Found c after → in_order at c ≡ false → Kind s at
-  outside : (c : Command) (after : ℕ) → decode s at ≡ Found c after → in_order at c ≡ true → in_range (header s).rank c ≡ false → Kind s at
-  lacking : (c : Command) (after : ℕ) → decode s at ≡ Found c after → in_order at c ≡ true → in_range (header s).rank c ≡ true
+  nothing : decode s at ≡ Err Nothing → Kind s at
+  unknown : decode s at ≡ Err NoCommand → Kind s at
+  short : decode s at ≡ Err Short → Kind s at
+  disordered : (c : Command) (after : ℕ) → decode s at ≡ Ok (c, after) → in_order at c ≡ false → Kind s at
+  outside : (c : Command) (after : ℕ) → decode s at ≡ Ok (c, after) → in_order at c ≡ true → in_range (header s).rank c ≡ false → Kind s at
+  lacking : (c : Command) (after : ℕ) → decode s at ≡ Ok (c, after) → in_order at c ≡ true → in_range (header s).rank c ≡ true
       → invertible (header s).q c ≡ false → Kind s at
   end : (after : ℕ) → Taken s at End after → Kind s at
   on : (c : Command) (after : ℕ) → Taken s at c after → is_end c ≡ false → Kind s at
@@ -72,7 +76,7 @@ taken_kind (Show w) s at after t = on _ after t refl
 pub kind? : (s : List ℕ) (at : ℕ) → Kind s at
 kind? s at = go (decode s at) refl
   where
-    command : {c : Command} {after : ℕ} → decode s at ≡ Found c after → (o r v : Bool) → in_order at c ≡ o → in_range (header s).rank c ≡ r
+    command : {c : Command} {after : ℕ} → decode s at ≡ Ok (c, after) → (o r v : Bool) → in_order at c ≡ o → in_range (header s).rank c ≡ r
         → invertible (header s).q c ≡ v → Kind s at
     command {c} {after} d false r v e f g = disordered c after d e
     command {c} {after} d true false v e f g = outside c after d e f
@@ -80,7 +84,7 @@ kind? s at = go (decode s at) refl
     command {c} {after} d true true true e f g = taken_kind c s at after (record { stands = d; order = e; range = f; inverse = g })
 
     go : (d : Decoded) → decode s at ≡ d → Kind s at
-    go (Found c after) e = command e (in_order at c) (in_range (header s).rank c) (invertible (header s).q c) refl refl refl
-    go NoCommand e = unknown e
-    go Short e = short e
-    go Nothing e = nothing e
+    go (Ok (c, after)) e = command e (in_order at c) (in_range (header s).rank c) (invertible (header s).q c) refl refl refl
+    go (Err NoCommand) e = unknown e
+    go (Err Short) e = short e
+    go (Err Nothing) e = nothing e

@@ -1,4 +1,5 @@
 -- The commands that are read in a composed sheet are those that it is composed of. Rests on sheet_format's Written and Offsets.
+use Rattle.std.proofs.Common.{Ok}
 use mathlib.Core.Path.{◌≡◌, sym, ap, ap₂, ◌∙◌}
 use mathlib.Core.Bool.{cond, false}
 use mathlib.Core.List.{List, [], ◌∷◌, ◌++◌, append_assoc}
@@ -6,19 +7,17 @@ use Prim.Native.Nat.{ℕ, zero, suc, ◌<◌}
 use native.Mathlib.Omega.{arith}
 use lib.ListN.{length, length-append}
 use Rattle.lists.specs.Lists.{All}
-use Rattle.sheet_format.specs.Format.{decode}
+use Rattle.sheet_format.specs.Format.{Decoded, decode}
 use Rattle.sheet_format.specs.Written.{written, Writable}
 use Rattle.sheet_format.specs.declared.Command.{Command}
 use Rattle.sheet_format.specs.declared.Command.TheVariants.{End}
-use Rattle.sheet_format.specs.declared.Decoded.{Decoded}
-use Rattle.sheet_format.specs.declared.Decoded.TheVariants.{Found}
 use Rattle.sheet_format.proofs.Offsets.{found_within}
 use Rattle.sheet_format.proofs.Written.{agrees}
 use Rattle.sheet.specs.Check.{is_end, following, command_of, placed_from, placed, commands}
 use Rattle.sheet.specs.Composed.{composed, Composes}
 
 -- the commands from an offset on where c stands
-step : {c : Command} {after : ℕ} (n : ℕ) (s : List ℕ) (at : ℕ) → decode s at ≡ Found c after
+step : {c : Command} {after : ℕ} (n : ℕ) (s : List ℕ) (at : ℕ) → decode s at ≡ Ok (c, after)
     → commands (placed_from (suc n) s at) ≡ c ∷ commands (cond (is_end c) [] (placed_from n s after))
 unfolding placed_from commands
 step n s at e = ap (λ (d : Decoded). command_of d ++ commands (following d (placed_from n s))) e

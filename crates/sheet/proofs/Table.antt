@@ -9,11 +9,9 @@ use native.Mathlib.Omega.{arith}
 use lib.ListN.{length}
 use Rattle.lists.specs.Lists.{less}
 use Rattle.lists.proofs.Test.{LessView, lt, ge, less?, less_yes, less_no}
-use Rattle.refusals.specs.Refusals.{refusal_place, unless}
+use Rattle.refusals.specs.Refusals.{Verdict, refusal_place, unless}
 use Rattle.refusals.specs.declared.Refusal.{Refusal}
 use Rattle.refusals.specs.declared.Refusal.TheVariants.{Rank, Size, Scratch, Word, Letter, Length, Image, Entry, Buffer, Bytes, Unknown, CutOff, Order, Range, Ending, NoInverse}
-use Rattle.refusals.specs.declared.Verdict.{Verdict}
-use Rattle.refusals.specs.declared.Verdict.TheVariants.{Accepted, Refused}
 use Rattle.refusals.proofs.Verdicts.{Near}
 use Rattle.refusals.proofs.Ended.{refuses_verdict}
 use Rattle.sheet_format.specs.declared.Command.TheVariants.{End}
@@ -27,16 +25,17 @@ use Rattle.sheet.proofs.Cases.{Kind, nothing, unknown, short, disordered, outsid
 use Rattle.sheet.proofs.Begun.{ends_not, good, out_of_order, out_of_range, uninvertible, order_refused, range_refused, inverse_refused}
 use Rattle.sheet.proofs.Accepted.{sized, missized, size?}
 use Rattle.sheet.proofs.Reached.{reached, reached_on, end_checked}
+use Rattle.std.proofs.Common.{Ok, Err}
 
 -- ---- the table says what the check finds
 
 abbrev Holds : List ℕ → Verdict → Type 0
-Holds s Accepted = Passes s
-Holds s (Refused why) = Says s why × (refusal_place why ≤ 4096)
+Holds s (Ok _) = Passes s
+Holds s (Err why) = Says s why × (refusal_place why ≤ 4096)
 
 near : (s : List ℕ) (v : Verdict) → Holds s v → Near v
-near s Accepted h = omega arith
-near s (Refused why) h = h.1
+near s (Ok _) h = omega arith
+near s (Err why) h = h.1
 
 found_from : (k : ℕ) (s : List ℕ) (at : ℕ) → length s - at < k → at ≤ length s → Reached s at → Holds s (check_from s at)
 found_from zero s at h m r = absurd (omega arith)
@@ -70,7 +69,7 @@ found s = ⊎_elim (λ h. rw (missized s h) (h, omega arith))
 
 -- ---- the check finds what the table says
 
-says : (s : List ℕ) (why : Refusal) → Says s why → check_sheet s ≡ Refused why
+says : (s : List ℕ) (why : Refusal) → Says s why → check_sheet s ≡ Err why
 says s Rank h = absurd h
 says s Size h = absurd h
 says s Scratch h = absurd h
@@ -89,7 +88,7 @@ says s (NoInverse at) h = let way = reached h.0 in way.0 ∙ inverse_refused s a
 says s (Ending at) (inl h) = (reached h.0).0 ∙ stands s at (past_end s at (omega (arith, h.1)))
 says s (Ending at) (inr h) = end_checked h.0 ∙ rw (less_yes h.1) refl
 
-passes : (s : List ℕ) → Passes s → check_sheet s ≡ Accepted
+passes : (s : List ℕ) → Passes s → check_sheet s ≡ Ok tt
 passes s e = end_checked e ∙ rw (less_no (le_refl (length s))) refl
 
 pub exactly : (s : List ℕ) → Exactly s

@@ -11,17 +11,14 @@
 --   judge s at found              10 to 15: on what stands at an offset
 --   first_refusal s ps            the first refusal by rising offset
 --   check_sheet s                 the whole check
-use Rattle.std.specs.Prelude.{Bool, true, false, cond, not, ◌&&◌, ◌||◌, List, [], ◌∷◌, ◌++◌, ℕ, zero, suc, length}
+use Rattle.std.specs.Prelude.{Ok, Err, Bool, true, false, cond, not, ◌&&◌, ◌||◌, List, [], ◌∷◌, ◌++◌, ℕ, zero, suc, length}
 use Rattle.lists.specs.Lists.{same, less}
-use Rattle.refusals.specs.Refusals.{◌then◌, unless}
+use Rattle.refusals.specs.Refusals.{Verdict, ◌then◌, unless}
 use Rattle.refusals.specs.declared.Refusal.TheVariants.{Bytes, Unknown, CutOff, Order, Range, Ending, NoInverse}
-use Rattle.refusals.specs.declared.Verdict.{Verdict}
-use Rattle.refusals.specs.declared.Verdict.TheVariants.{Accepted, Refused}
-use Rattle.sheet_format.specs.Format.{decode, header}
+use Rattle.sheet_format.specs.Format.{Decoded, decode, header}
 use Rattle.sheet_format.specs.declared.Command.{Command}
 use Rattle.sheet_format.specs.declared.Command.TheVariants.{End, Begin, Change, Show}
-use Rattle.sheet_format.specs.declared.Decoded.{Decoded}
-use Rattle.sheet_format.specs.declared.Decoded.TheVariants.{Found, NoCommand, Short, Nothing}
+use Rattle.sheet_format.specs.declared.Missing.TheVariants.{NoCommand, Short, Nothing}
 use Rattle.operands.specs.Operands.{in_range, invertible}
 
 -- ---- a command
@@ -48,10 +45,8 @@ pub record Placed : Type 0 where
   pub found : Decoded
 
 abbrev pub following : Decoded → (ℕ → List Placed) → List Placed
-following (Found c after) rest = cond (is_end c) [] (rest after)
-following NoCommand rest = []
-following Short rest = []
-following Nothing rest = []
+following (Ok (c, after)) rest = cond (is_end c) [] (rest after)
+following (Err why) rest = []
 
 unfoldable pub placed_from : ℕ → List ℕ → ℕ → List Placed
 placed_from zero s at = []
@@ -61,27 +56,25 @@ unfoldable pub placed : List ℕ → List Placed
 placed s = placed_from (suc (length s)) s 0
 
 abbrev pub command_of : Decoded → List Command
-command_of (Found c next) = c ∷ []
-command_of NoCommand = []
-command_of Short = []
-command_of Nothing = []
+command_of (Ok (c, next)) = c ∷ []
+command_of (Err why) = []
 
 unfoldable pub commands : List Placed → List Command
 commands [] = []
 commands (p ∷ ps) = command_of p.found ++ commands ps
 
 abbrev pub judge : List ℕ → ℕ → Decoded → Verdict
-judge s at NoCommand = Refused (Unknown at)
-judge s at Short = Refused (CutOff at)
-judge s at (Found c after) =
+judge s at (Err NoCommand) = Err (Unknown at)
+judge s at (Err Short) = Err (CutOff at)
+judge s at (Ok (c, after)) =
     unless (not (in_order at c)) (Order at)
     then unless (not (in_range (header s).rank c)) (Range at)
     then unless (not (invertible (header s).q c)) (NoInverse at)
     then unless (is_end c && less after (length s)) (Ending after)
-judge s at Nothing = Refused (Ending at)
+judge s at (Err Nothing) = Err (Ending at)
 
 unfoldable pub first_refusal : List ℕ → List Placed → Verdict
-first_refusal s [] = Accepted
+first_refusal s [] = Ok tt
 first_refusal s (p ∷ ps) = judge s p.offset p.found then first_refusal s ps
 
 unfoldable pub check_sheet : List ℕ → Verdict

@@ -15,16 +15,15 @@
 --   Passes s                  an end command is reached, and nothing stands after it
 --   Exactly s                 a sheet is refused exactly where the table says so, and accepted exactly where it passes; a refusal counts 0, and its
 --                             place is at most 4,096
-use Rattle.std.specs.Prelude.{◌≡◌, List, [], ◌∷◌, ◌⊎◌, ◌≢◌, ℕ, ◌%◌, ◌≤◌, ◌<◌, length}
+use Rattle.std.specs.Prelude.{◌≡◌, Ok, Err, List, [], ◌∷◌, ◌⊎◌, ◌≢◌, ℕ, ◌%◌, ◌≤◌, ◌<◌, length}
 use Rattle.refusals.specs.Refusals.{verdict_report, Refuses}
 use Rattle.refusals.specs.declared.Refusal.{Refusal}
 use Rattle.refusals.specs.declared.Refusal.TheVariants.{Rank, Size, Scratch, Word, Letter, Length, Image, Entry, Buffer, Bytes, Unknown, CutOff, Order, Range, Ending, NoInverse}
-use Rattle.refusals.specs.declared.Verdict.TheVariants.{Accepted, Refused}
 use Rattle.sheet_format.specs.Format.{decode, header}
 use Rattle.sheet_format.specs.declared.Update.TheVariants.{InverseLetter}
 use Rattle.sheet_format.specs.declared.Command.{Command}
 use Rattle.sheet_format.specs.declared.Command.TheVariants.{End, Change}
-use Rattle.sheet_format.specs.declared.Decoded.TheVariants.{Found, NoCommand, Short}
+use Rattle.sheet_format.specs.declared.Missing.TheVariants.{NoCommand, Short}
 use Rattle.operands.specs.Bounds.{Begins, Bounds}
 use Rattle.sheet.specs.Check.{check_sheet}
 
@@ -32,7 +31,7 @@ abbrev pub Ordered : ℕ → Command → Type 0
 Ordered at c = (at ≡ 0 → Begins c) × (Begins c → at ≡ 0)
 
 pub record Good (s : List ℕ) (at : ℕ) (c : Command) (after : ℕ) : Type 0 where
-  pub stands : decode s at ≡ Found c after
+  pub stands : decode s at ≡ Ok (c, after)
   pub order : Ordered at c
   pub range : Bounds (header s).rank c
   pub inverse : (r i : ℕ) → c ≡ Change (InverseLetter r i) → (header s).q % 2 ≡ 1
@@ -53,12 +52,12 @@ pub record Reached (s : List ℕ) (at : ℕ) : Type 0 where
 
 pub record OutOfOrder (s : List ℕ) (at : ℕ) : Type 0 where
   pub link : Link
-  pub stands : decode s at ≡ Found link.command link.after
+  pub stands : decode s at ≡ Ok (link.command, link.after)
   pub order : Ordered at link.command → ⊥
 
 pub record OutOfRange (s : List ℕ) (at : ℕ) : Type 0 where
   pub link : Link
-  pub stands : decode s at ≡ Found link.command link.after
+  pub stands : decode s at ≡ Ok (link.command, link.after)
   pub order : Ordered at link.command
   pub range : Bounds (header s).rank link.command → ⊥
 
@@ -66,7 +65,7 @@ pub record Uninvertible (s : List ℕ) (at : ℕ) : Type 0 where
   pub register : ℕ
   pub letter : ℕ
   pub after : ℕ
-  pub stands : decode s at ≡ Found (Change (InverseLetter register letter)) after
+  pub stands : decode s at ≡ Ok (Change (InverseLetter register letter), after)
   pub order : Ordered at (Change (InverseLetter register letter))
   pub range : Bounds (header s).rank (Change (InverseLetter register letter))
   pub even : (header s).q % 2 ≡ 0
@@ -78,8 +77,8 @@ pub record Ended (s : List ℕ) (after : ℕ) : Type 0 where
 
 abbrev pub Says : List ℕ → Refusal → Type 0
 Says s Bytes = (length s ≡ 0) ⊎ (4096 < length s)
-Says s (Unknown at) = Reached s at × (decode s at ≡ NoCommand)
-Says s (CutOff at) = Reached s at × (decode s at ≡ Short)
+Says s (Unknown at) = Reached s at × (decode s at ≡ Err NoCommand)
+Says s (CutOff at) = Reached s at × (decode s at ≡ Err Short)
 Says s (Order at) = Reached s at × OutOfOrder s at
 Says s (Range at) = Reached s at × OutOfRange s at
 Says s (NoInverse at) = Reached s at × Uninvertible s at
@@ -99,8 +98,8 @@ abbrev pub Passes : List ℕ → Type 0
 Passes s = Ended s (length s)
 
 pub record Exactly (s : List ℕ) : Type 0 where
-  pub refused : (why : Refusal) → check_sheet s ≡ Refused why → Says s why
-  pub says : (why : Refusal) → Says s why → check_sheet s ≡ Refused why
-  pub accepted : check_sheet s ≡ Accepted → Passes s
-  pub passes : Passes s → check_sheet s ≡ Accepted
+  pub refused : (why : Refusal) → check_sheet s ≡ Err why → Says s why
+  pub says : (why : Refusal) → Says s why → check_sheet s ≡ Err why
+  pub accepted : check_sheet s ≡ Ok tt → Passes s
+  pub passes : Passes s → check_sheet s ≡ Ok tt
   pub report : Refuses (verdict_report (check_sheet s))

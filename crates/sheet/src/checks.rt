@@ -1,86 +1,47 @@
 // The check of a sheet's commands: the first refusal by rising offset.
 
-ghost use Rattle.std.specs.Prelude.{◌≡◌};
-ghost use Rattle.sheet_format.specs.Format.{header};
-ghost use Rattle.sheet.specs.Check.{is_end, is_begin, in_order, placed, first_refusal};
-ghost use Rattle.sheet.specs.Steps.{judged_command, judged};
+ghost use Rattle.std.specs.Prelude.{◌≡◌, length};
+ghost use Rattle.sheet_format.specs.Format.{decode, header};
+ghost use Rattle.sheet.specs.Check.{in_order, placed, first_refusal};
+ghost use Rattle.sheet.specs.Steps.{judged};
 
 use refusals::{Refusal, Verdict};
-use sheet_format::{Command, Decoded, Header};
-
-fn is_end(command: Command) -> bool
-    ensures { result ≡ is_end command }
-{
-    match command {
-        Command::End => true,
-        Command::Begin(_) => false,
-        Command::Change(_) => false,
-        Command::Show(_) => false,
-    }
-}
-
-fn is_begin(command: Command) -> bool
-    ensures { result ≡ is_begin command }
-{
-    match command {
-        Command::End => false,
-        Command::Begin(_) => true,
-        Command::Change(_) => false,
-        Command::Show(_) => false,
-    }
-}
+use sheet_format::{Command, Header, Missing, Reader};
 
 // Whether the first command is begin, or a later one is not.
 #[tactic(auto, unfolding(crate::specs::Check::in_order, lists::specs::Lists::same))]
 fn in_order(at: usize, command: Command) -> bool
     ensures { result ≡ in_order at command }
 {
-    let begins = is_begin(command);
-    if at == 0 {
-        return begins;
-    }
-    !begins
+    (at == 0) == matches!(command, Command::Begin(_))
 }
 
-// How the check goes on: at an offset, or with its verdict.
-#[derive(Clone, Copy)]
-pub(crate) enum Judged {
-    On(usize),
-    Done(Verdict),
-}
-
-// A command at an offset of a sheet of n bytes that begins with a header, with the offset after it.
+// What is judged where a reader stands, in a sheet that begins with a header: the offset after a command that is not the end, or none
+// after the end; or why the sheet is refused.
 #[tactic(auto, unfolding(crate::specs::Steps::judged_command, lists::specs::Lists::less))]
-fn judge_command(n: usize, head: Header, at: usize, command: Command, after: usize) -> Judged
-    ensures { result ≡ judged_command n head at command after }
+fn judge(reader: Reader, head: Header) -> Result<Option<usize>, Refusal>
+    ensures { result ≡ judged (length reader.entry.sheet.now) head reader.entry.at (decode reader.entry.sheet.now reader.entry.at) }
 {
+    let at = reader.at;
+    let (command, after) = match reader.next() {
+        Ok(found) => found,
+        Err(Missing::NoCommand) => return Err(Refusal::Unknown(at)),
+        Err(Missing::Short) => return Err(Refusal::CutOff(at)),
+        Err(Missing::Nothing) => return Err(Refusal::Ending(at)),
+    };
     if !in_order(at, command) {
-        return Judged::Done(Verdict::Refused(Refusal::Order(at)));
+        return Err(Refusal::Order(at));
     }
     if !operands::in_range(head.rank, command) {
-        return Judged::Done(Verdict::Refused(Refusal::Range(at)));
+        return Err(Refusal::Range(at));
     }
     if !operands::invertible(head.q, command) {
-        return Judged::Done(Verdict::Refused(Refusal::NoInverse(at)));
+        return Err(Refusal::NoInverse(at));
     }
-    if !is_end(command) {
-        return Judged::On(after);
-    }
-    if after < n {
-        return Judged::Done(Verdict::Refused(Refusal::Ending(after)));
-    }
-    Judged::Done(Verdict::Accepted)
-}
-
-// What stands at an offset of a sheet of n bytes that begins with a header.
-fn judge(n: usize, head: Header, at: usize, found: Decoded) -> Judged
-    ensures { result ≡ judged n head at found }
-{
-    match found {
-        Decoded::NoCommand => Judged::Done(Verdict::Refused(Refusal::Unknown(at))),
-        Decoded::Short => Judged::Done(Verdict::Refused(Refusal::CutOff(at))),
-        Decoded::Found(command, after) => judge_command(n, head, at, command, after),
-        Decoded::Nothing => Judged::Done(Verdict::Refused(Refusal::Ending(at))),
+    match command {
+        Command::End if after < reader.sheet.len() => Err(Refusal::Ending(after)),
+        Command::End => Ok(None),
+        _ => Ok(Some(after)),
     }
 }
 
@@ -89,16 +50,9 @@ pub(crate) fn commands(sheet: &[u8], head: Header) -> Verdict
     requires { head ≡ header sheet.now }
     ensures { result ≡ first_refusal sheet.now (placed sheet.now) }
 {
-    let n = sheet.len();
-    let mut reader = sheet_format::reader_at(sheet, 0);
-    loop {
-        match judge(n, head, reader.at, sheet_format::next(reader)) {
-            Judged::On(after) => {
-                reader = sheet_format::moved(reader, after);
-            }
-            Judged::Done(verdict) => {
-                return verdict;
-            }
-        }
+    let mut reader = Reader::new(sheet, 0);
+    while let Some(after) = judge(reader, head)? {
+        reader = reader.moved(after);
     }
+    Ok(())
 }

@@ -17,13 +17,8 @@ mod checks;
 pub fn check(sheet: &[u8]) -> Verdict
     ensures { result ≡ check_sheet sheet.now }
 {
-    let n = sheet.len();
-    if n == 0 {
-        return Verdict::Refused(Refusal::Bytes);
+    if sheet.is_empty() || 4096 < sheet.len() {
+        return Err(Refusal::Bytes);
     }
-    if 4096 < n {
-        return Verdict::Refused(Refusal::Bytes);
-    }
-    let header = sheet_format::header_of(sheet);
-    checks::commands(sheet, header)
+    checks::commands(sheet, sheet_format::header_of(sheet))
 }

@@ -25,12 +25,6 @@ module _ (x : List ℕ) (i n : ℕ) where
       let rest : value ≡ number x (suc (i + j)) (n - k) = rw at at h.is in
       record { left = omega (arith, h.left); is = rw more (omega arith) }
 
-  pub read_all : {value k : ℕ} → ReadTo x i n value k → k ≡ 0 → value ≡ number x i n
-  read_all {value} {k} h e =
-      let at : i + k ≡ i = omega arith in
-      let all : n - k ≡ n = omega arith in
-      rw (at, all) at h.is
-
 module _ (x : List ℕ) (bytes : (i : ℕ) → get_or x i 0 < 2 ^ 8) where
   pub number_fits : (i n : ℕ) → number x i n < 256 ^ n
   unfolding number byte

@@ -5,6 +5,7 @@
 --   row_written           the row of a written command
 --   Read k x              the command with the code of k that is read off x: its operands stand at the front of x, if x are bytes
 --   Code k x              k is the code of a command, or has no row
+use Rattle.std.proofs.Common.{Some, None}
 use mathlib.Core.Path.{◌≡◌, refl, sym}
 use mathlib.Core.Logic.{◌≢◌}
 use mathlib.Core.List.{List, ◌∷◌, ◌++◌}
@@ -18,7 +19,6 @@ use Rattle.sheet_format.specs.declared.Update.TheVariants.{Unit, Set, Letter, In
 use Rattle.sheet_format.specs.declared.Query.TheVariants.{Register, Pairing, Equality, Trace}
 use Rattle.sheet_format.specs.declared.Command.{Command}
 use Rattle.sheet_format.specs.declared.Command.TheVariants.{End, Begin, Change, Show}
-use Rattle.sheet_format.specs.declared.decoder.Row.TheVariants.{Known, Unknown}
 use Rattle.sheet_format.proofs.Codes.{other}
 use Rattle.sheet_format.proofs.Little.{after_one, after_three, one_byte, two_bytes, three_bytes, byte_and_word, byte_pair_and_word}
 
@@ -46,27 +46,27 @@ parts (Show (Trace r z)) = refl
 
 -- ---- what is written is read
 
-pub row_written : (c : Command) (rest : List ℕ) → Writable c → row (code c) (operands c ++ rest) ≡ Known c (width c)
+pub row_written : (c : Command) (rest : List ℕ) → Writable c → row (code c) (operands c ++ rest) ≡ Some (c, width c)
 unfolding row same byte written little
 row_written End rest w = refl
-row_written (Begin h) rest w = λ j. Known (Begin (record { rank = h.rank; q = after_one h.rank 8 h.q rest w.1 j })) 9
+row_written (Begin h) rest w = λ j. Some (Begin (record { rank = h.rank; q = after_one h.rank 8 h.q rest w.1 j }), 9)
 row_written (Change (Unit r)) rest w = refl
 row_written (Change (Set r i v)) rest w = λ j.
-    Known (Change (Set r (after_one r 2 i (little 8 v ++ rest) w.1 j) (after_three r (i % 256) (i / 256 % 256) 8 v rest w.2 j))) 11
+    Some (Change (Set r (after_one r 2 i (little 8 v ++ rest) w.1 j) (after_three r (i % 256) (i / 256 % 256) 8 v rest w.2 j)), 11)
 row_written (Change (Letter r i)) rest w = refl
 row_written (Change (Product d a b)) rest w = refl
 row_written (Change (Sum d a b)) rest w = refl
-row_written (Change (Scale r v)) rest w = λ j. Known (Change (Scale r (after_one r 8 v rest w.1 j))) 9
+row_written (Change (Scale r v)) rest w = λ j. Some (Change (Scale r (after_one r 8 v rest w.1 j)), 9)
 row_written (Change (InverseLetter r i)) rest w = refl
 row_written (Show (Register r)) rest w = refl
 row_written (Show (Pairing a b)) rest w = refl
 row_written (Show (Equality a b)) rest w = refl
-row_written (Show (Trace r z)) rest w = λ j. Known (Show (Trace r (after_one r 8 z rest w.1 j))) 9
+row_written (Show (Trace r z)) rest w = λ j. Some (Show (Trace r (after_one r 8 z rest w.1 j)), 9)
 
 -- ---- what is read is written
 
 pub data Read (k : Command) (x : List ℕ) : Type 0 where
-  off : (c : Command) → code c ≡ code k → row (code k) x ≡ Known c (width k)
+  off : (c : Command) → code c ≡ code k → row (code k) x ≡ Some (c, width k)
       → (((i : ℕ) → byte x i < 256) → width k ≤ length x → (operands c ≡ take (width k) x) × Writable c) → Read k x
 
 pub read_off : (k : Command) (x : List ℕ) → Read k x
@@ -89,7 +89,7 @@ read_off (Show (Trace r z)) x = off (Show (Trace (byte x 0) (number x 1 8))) ref
 
 pub data Code (k : ℕ) (x : List ℕ) : Type 0 where
   some : (c : Command) → code c ≡ k → Code k x
-  none : row k x ≡ Unknown → Code k x
+  none : row k x ≡ None → Code k x
 
 or_else : {k : ℕ} {x : List ℕ} (c : Command) → (k ≢ code c → Code k x) → Code k x
 or_else {k} {x} c go = case (same? k (code c))

@@ -4,6 +4,7 @@
 --   Stands k s at   the command with the code of k that is read at an offset where this code stands
 --   Kind s at       what stands at an offset: nothing, a code that no command has, a part of a command, a whole one
 --   kind? s at      which of these it is
+use Rattle.std.proofs.Common.{Option, Some, None, Ok, Err}
 use mathlib.Core.Path.{◌≡◌, refl, sym, ap, ap₂, ◌∙◌}
 use mathlib.Core.Logic.{◌≢◌}
 use mathlib.Core.List.{List, ◌∷◌}
@@ -16,9 +17,7 @@ use Rattle.lists.proofs.Test.{LessView, lt, ge, less?, less_yes, less_no}
 use Rattle.sheet_format.specs.Format.{byte, row, placed_row, decode}
 use Rattle.sheet_format.specs.Written.{written, code, Bytes, Writable, CutOff}
 use Rattle.sheet_format.specs.declared.Command.{Command}
-use Rattle.sheet_format.specs.declared.Decoded.TheVariants.{Found, NoCommand, Short, Nothing}
-use Rattle.sheet_format.specs.declared.decoder.Row.{Row}
-use Rattle.sheet_format.specs.declared.decoder.Row.TheVariants.{Known, Unknown}
+use Rattle.sheet_format.specs.declared.Missing.TheVariants.{NoCommand, Short, Nothing}
 use Rattle.sheet_format.proofs.Little.{byte_fits}
 use Rattle.sheet_format.proofs.Offsets.{past_end}
 use Rattle.sheet_format.proofs.Rows.{width, parts, Read, off, read_off, Code, some, none, code?}
@@ -26,22 +25,22 @@ use Rattle.sheet_format.proofs.Rows.{width, parts, Read, off, read_off, Code, so
 pub size : (c : Command) → length (written c) ≡ suc (width c)
 size c = ap length (parts c)
 
-abbrev pub row_at : List ℕ → ℕ → Row
+abbrev pub row_at : List ℕ → ℕ → Option (Command × ℕ)
 row_at s at = row (byte s at) (drop (at + 1) s)
 
-pub row_stands : {r : Row} (s : List ℕ) (at : ℕ) → at < length s → row_at s at ≡ r → decode s at ≡ placed_row (length s) (at + 1) r
+pub row_stands : {r : Option (Command × ℕ)} (s : List ℕ) (at : ℕ) → at < length s → row_at s at ≡ r → decode s at ≡ placed_row (length s) (at + 1) r
 unfolding decode
 row_stands s at h e = rw (less_yes h) (ap (placed_row (length s) (at + 1)) e)
 
-pub fits : (n at : ℕ) (c : Command) (wide : ℕ) → at + wide ≤ n → placed_row n at (Known c wide) ≡ Found c (at + wide)
+pub fits : (n at : ℕ) (c : Command) (wide : ℕ) → at + wide ≤ n → placed_row n at (Some (c, wide)) ≡ Ok (c, at + wide)
 fits n at c wide h = rw (less_no h) refl
 
-lacks : (n at : ℕ) (c : Command) (wide : ℕ) → n < at + wide → placed_row n at (Known c wide) ≡ Short
+lacks : (n at : ℕ) (c : Command) (wide : ℕ) → n < at + wide → placed_row n at (Some (c, wide)) ≡ Err Short
 lacks n at c wide h = rw (less_yes h) refl
 
 record Stands (k : Command) (s : List ℕ) (at : ℕ) : Type 0 where
   command : Command
-  is_row : row_at s at ≡ Known command (width k)
+  is_row : row_at s at ≡ Some (command, width k)
   bytes : Bytes s → at + 1 + width k ≤ length s → (take (suc (width k)) (drop at s) ≡ written command) × Writable command
 
 stands_at : (k : Command) (s : List ℕ) (at : ℕ) → at < length s → code k ≡ byte s at → Stands k s at
@@ -60,16 +59,16 @@ stands_at k s at h p = go (read_off k (drop (at + 1) s))
           );
     }
 
-pub cut_short : (s : List ℕ) (at : ℕ) → CutOff s at → decode s at ≡ Short
+pub cut_short : (s : List ℕ) (at : ℕ) → CutOff s at → decode s at ≡ Err Short
 cut_short s at o =
     let t = stands_at o.command s at o.within o.begins in
     row_stands s at o.within t.is_row ∙ lacks (length s) (at + 1) t.command (width o.command) (omega (arith, o.ends, size o.command))
 
 pub data Kind (s : List ℕ) (at : ℕ) : Type 0 where
-  past : length s ≤ at → decode s at ≡ Nothing → Kind s at
-  other : at < length s → ((c : Command) → code c ≢ byte s at) → decode s at ≡ NoCommand → Kind s at
-  part : CutOff s at → decode s at ≡ Short → Kind s at
-  whole : (k c : Command) → code k ≡ byte s at → decode s at ≡ Found c (at + 1 + width k)
+  past : length s ≤ at → decode s at ≡ Err Nothing → Kind s at
+  other : at < length s → ((c : Command) → code c ≢ byte s at) → decode s at ≡ Err NoCommand → Kind s at
+  part : CutOff s at → decode s at ≡ Err Short → Kind s at
+  whole : (k c : Command) → code k ≡ byte s at → decode s at ≡ Ok (c, at + 1 + width k)
       → (Bytes s → (take (suc (width k)) (drop at s) ≡ written c) × Writable c) → Kind s at
 
 pub kind? : (s : List ℕ) (at : ℕ) → Kind s at
@@ -80,7 +79,7 @@ kind? s at = go (less? at (length s))
     known h k p (ge l e) = let t = stands_at k s at h p in
         whole k t.command p (row_stands s at h t.is_row ∙ fits (length s) (at + 1) t.command (width k) l) (λ b. t.bytes b l)
 
-    unless : at < length s → row_at s at ≡ Unknown → (c : Command) → code c ≢ byte s at
+    unless : at < length s → row_at s at ≡ None → (c : Command) → code c ≢ byte s at
     unless h e c p = let t = stands_at c s at h p in let z : ◌≡◌ {A = ℕ} 0 1 = cc (sym e ∙ t.is_row) in omega arith
 
     coded : at < length s → Code (byte s at) (drop (at + 1) s) → Kind s at

@@ -9,7 +9,7 @@
 --   CutOff s at   the code of a command stands at an offset, and the sheet ends before the command does
 --   Agrees        a command that is written at an offset is read there, and one that is read is written there; a code is unknown exactly
 --                 where no command has it, a command short exactly where it is cut off, and nothing is there exactly past the end
-use Rattle.std.specs.Prelude.{◌≡◌, ◌≢◌, ◌↔◌, List, [], ◌∷◌, ◌++◌, ℕ, zero, suc, ◌+◌, ◌-◌, ◌/◌, ◌%◌, ◌^◌, ◌≤◌, ◌<◌, length, take, drop}
+use Rattle.std.specs.Prelude.{◌≡◌, ◌≢◌, ◌↔◌, Ok, Err, List, [], ◌∷◌, ◌++◌, ℕ, zero, suc, ◌+◌, ◌-◌, ◌/◌, ◌%◌, ◌^◌, ◌≤◌, ◌<◌, length, take, drop}
 use Rattle.lists.specs.Lists.{All}
 use Rattle.sheet_format.specs.Format.{byte, decode}
 use Rattle.sheet_format.specs.declared.Update.{Update}
@@ -18,7 +18,7 @@ use Rattle.sheet_format.specs.declared.Query.{Query}
 use Rattle.sheet_format.specs.declared.Query.TheVariants.{Register, Pairing, Equality, Trace}
 use Rattle.sheet_format.specs.declared.Command.{Command}
 use Rattle.sheet_format.specs.declared.Command.TheVariants.{End, Begin, Change, Show}
-use Rattle.sheet_format.specs.declared.Decoded.TheVariants.{Found, NoCommand, Short, Nothing}
+use Rattle.sheet_format.specs.declared.Missing.TheVariants.{NoCommand, Short, Nothing}
 
 unfoldable pub little : ℕ → ℕ → List ℕ
 little zero v = []
@@ -89,9 +89,9 @@ pub record CutOff (s : List ℕ) (at : ℕ) : Type 0 where
 
 pub record Agrees : Type 0 where
   pub reads : (front rest : List ℕ) (c : Command) → Writable c
-      → decode (front ++ (written c ++ rest)) (length front) ≡ Found c (length front + length (written c))
-  pub stands : {c : Command} {after : ℕ} (s : List ℕ) (at : ℕ) → Bytes s → decode s at ≡ Found c after
+      → decode (front ++ (written c ++ rest)) (length front) ≡ Ok (c, length front + length (written c))
+  pub stands : {c : Command} {after : ℕ} (s : List ℕ) (at : ℕ) → Bytes s → decode s at ≡ Ok (c, after)
       → (take (after - at) (drop at s) ≡ written c) × Writable c
-  pub unknown : (s : List ℕ) (at : ℕ) → (decode s at ≡ NoCommand) ↔ ((at < length s) × ((c : Command) → code c ≢ byte s at))
-  pub short : (s : List ℕ) (at : ℕ) → (decode s at ≡ Short) ↔ CutOff s at
-  pub nothing : (s : List ℕ) (at : ℕ) → (decode s at ≡ Nothing) ↔ (length s ≤ at)
+  pub unknown : (s : List ℕ) (at : ℕ) → (decode s at ≡ Err NoCommand) ↔ ((at < length s) × ((c : Command) → code c ≢ byte s at))
+  pub short : (s : List ℕ) (at : ℕ) → (decode s at ≡ Err Short) ↔ CutOff s at
+  pub nothing : (s : List ℕ) (at : ℕ) → (decode s at ≡ Err Nothing) ↔ (length s ≤ at)

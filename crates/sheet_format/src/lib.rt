@@ -3,7 +3,7 @@
 #![tactic(auto)]
 
 ghost use Rattle.std.specs.Prelude.{◌≡◌};
-ghost use Rattle.sheet_format.specs.Format.{decode, begun, header};
+ghost use Rattle.sheet_format.specs.Format.{decode, header};
 
 mod decoder;
 mod operands;
@@ -11,7 +11,7 @@ mod operands;
 pub use decoder::decode;
 
 // What the begin command says of a sheet.
-#[derive(Clone, Copy)]
+#[derive(Clone, Copy, Default)]
 pub struct Header {
     // The rank m of every element.
     pub rank: usize,
@@ -64,11 +64,9 @@ pub enum Command {
     Show(Query),
 }
 
-// What stands at an offset of a sheet.
-#[derive(Clone, Copy)]
-pub enum Decoded {
-    // A command, and the offset after it.
-    Found(Command, usize),
+// Why no command stands at an offset of a sheet.
+#[derive(Clone, Copy, PartialEq, Eq)]
+pub enum Missing {
     // A byte that is the code of no command.
     NoCommand,
     // A command whose operands are cut off.
@@ -77,6 +75,9 @@ pub enum Decoded {
     Nothing,
 }
 
+// What stands at an offset of a sheet: a command and the offset after it, or why there is none.
+pub type Decoded = Result<(Command, usize), Missing>;
+
 // A sheet's bytes, and the offset of the next command.
 #[derive(Clone, Copy)]
 pub struct Reader<'a> {
@@ -84,65 +85,48 @@ pub struct Reader<'a> {
     pub at: usize,
 }
 
-// The reader of a sheet from an offset on.
-// Example: at 0 its next command is the sheet's first.
-pub fn reader_at<'a>(sheet: &'a [u8], at: usize) -> Reader<'a>
-    ensures { (result.sheet ≡ sheet.entry) × (result.at ≡ at) }
-{
-    Reader { sheet, at }
-}
+impl<'a> Reader<'a> {
+    // The reader of a sheet from an offset on.
+    // Example: at 0 its next command is the sheet's first.
+    pub fn new(sheet: &'a [u8], at: usize) -> Reader<'a>
+        ensures { (result.sheet ≡ sheet.entry) × (result.at ≡ at) }
+    {
+        Reader { sheet, at }
+    }
 
-// What the reader's next command is.
-// Example: for a reader of 0x20 0x03 at 0 it is the unit into register 3.
-pub fn next<'a>(reader: Reader<'a>) -> Decoded
-    ensures { result ≡ decode reader.entry.sheet.now reader.entry.at }
-{
-    decoder::decode(reader.sheet, reader.at)
-}
+    // What the reader's next command is.
+    // Example: for a reader of 0x20 0x03 at 0 it is the unit into register 3.
+    pub fn next(self) -> Decoded
+        ensures { result ≡ decode self.entry.sheet.now self.entry.at }
+    {
+        decode(self.sheet, self.at)
+    }
 
-// The reader of the same sheet from another offset on: a caller who keeps a reader goes on with it so.
-// Example: after the unit at 0 the reader goes on at 2.
-pub fn moved<'a>(reader: Reader<'a>, at: usize) -> Reader<'a>
-    ensures { (result.sheet ≡ reader.entry.sheet) × (result.at ≡ at) }
-{
-    Reader {
-        sheet: reader.sheet,
-        at,
+    // The reader of the same sheet from another offset on: a caller who keeps a reader goes on with it so.
+    // Example: after the unit at 0 the reader goes on at 2.
+    pub fn moved(self, at: usize) -> Reader<'a>
+        ensures { (result.sheet ≡ self.entry.sheet) × (result.at ≡ at) }
+    {
+        Reader { at, ..self }
     }
 }
 
-// What a reader finds at an offset of a sheet.
+// What a reader finds at an offset of a sheet. It says the same as `decode`: callers have both names.
 // Example: in 0x20 0x03, at 0, it is the unit into register 3, and the offset after it is 2.
 pub fn read(sheet: &[u8], at: usize) -> Decoded
     ensures { result ≡ decode sheet.now at }
 {
-    next(reader_at(sheet, at))
-}
-
-const NONE: Header = Header { rank: 0, q: 0 };
-
-// What a command says of its sheet.
-fn begun(command: Command) -> Header
-    ensures { result ≡ begun command }
-{
-    match command {
-        Command::End => NONE,
-        Command::Begin(header) => header,
-        Command::Change(_) => NONE,
-        Command::Show(_) => NONE,
-    }
+    Reader::new(sheet, at).next()
 }
 
 // What the sheet's begin command says; zeros where the sheet begins with none.
 // Example: 0x10 0x02 0x03 and seven zero bytes begin a sheet of rank 2 with q = 3.
+#[tactic(auto, unfolding(crate::specs::Format::header))]
 pub fn header_of(sheet: &[u8]) -> Header
     ensures { result ≡ header sheet.now }
 {
-    let first = decoder::decode(sheet, 0);
-    match first {
-        Decoded::Found(command, _) => begun(command),
-        Decoded::NoCommand => NONE,
-        Decoded::Short => NONE,
-        Decoded::Nothing => NONE,
+    match decode(sheet, 0) {
+        Ok((Command::Begin(header), _)) => header,
+        _ => Header::default(),
     }
 }

@@ -8,10 +8,7 @@ ghost use Rattle.sheet_format.specs.Format.{byte, number};
 pub(crate) fn byte(x: &[u8], i: usize) -> u8
     ensures { result ≡ byte x.now i }
 {
-    if i < x.len() {
-        return x[i];
-    }
-    0
+    x.get(i).copied().unwrap_or(0)
 }
 
 // The number of the n bytes from i on.
@@ -19,11 +16,9 @@ pub(crate) fn number(x: &[u8], i: usize, n: usize) -> u64
     requires { (n ≤ 8) × (i + n < 2 ^ 64) }
     ensures { result ≡ number x.now i n }
 {
-    let mut value: u64 = 0;
-    let mut k = n;
-    while 0 < k {
-        k -= 1;
-        value = value * 256 + byte(x, i + k) as u64;
+    let mut value = 0;
+    for k in (0..n).rev() {
+        value = value * 256 + u64::from(byte(x, i + k));
     }
     value
 }

@@ -11,29 +11,25 @@
 
 #![tactic(auto)]
 
-use refusals::Verdict;
+use refusals::{Answer, Refusal};
 use std::io;
-use vector_io::{Read, print_field};
+use vector_io::{print_field, read_front, read_number};
 
-fn print_ending(rt: &impl Print, ending: Verdict) -> io::Result<()> {
+fn print_ending(rt: &impl Print, ending: Result<Answer, Refusal>) -> io::Result<()> {
     match ending {
-        Verdict::Accepted => print!(rt; "A"),
-        Verdict::Refused(why) => {
-            print!(rt; "E")?;
-            print_field(rt, refusals::number_of(why) as u64)?;
-            print_field(rt, refusals::place_of(why) as u64)
-        }
+        Ok(_) => print!(rt; "A")?,
+        Err(why) => print!(rt; "E {why}")?,
     }
+    print_field(rt, refusals::count_of(ending))
 }
 
 // The register's number, the index and the value of each word that is not 0.
-fn print_register(rt: &impl Print, r: u64, words: &[u64]) -> io::Result<()> {
-    for i in 0..words.len() {
-        let word = words[i];
-        if word != 0 {
-            print_field(rt, r)?;
+fn print_register(rt: &impl Print, r: usize, words: &[u64]) -> io::Result<()> {
+    for (i, word) in words.iter().enumerate() {
+        if *word != 0 {
+            print_field(rt, r as u64)?;
             print_field(rt, i as u64)?;
-            print_field(rt, word)?;
+            print_field(rt, *word)?;
         }
     }
     Ok(())
@@ -41,44 +37,28 @@ fn print_register(rt: &impl Print, r: u64, words: &[u64]) -> io::Result<()> {
 
 fn print_run(rt: &impl Print, sheet: &[u8]) -> io::Result<()> {
     let done = runner::run(sheet);
-    let ending = done.ending;
-    print_ending(rt, ending)?;
-    print_field(rt, done.count)?;
-    let register0 = done.register0;
-    let register1 = done.register1;
-    let register2 = done.register2;
-    let register3 = done.register3;
-    print_register(rt, 0, &register0)?;
-    print_register(rt, 1, &register1)?;
-    print_register(rt, 2, &register2)?;
-    print_register(rt, 3, &register3)?;
+    print_ending(rt, done.ending)?;
+    for (r, words) in done.registers.iter().enumerate() {
+        print_register(rt, r, words)?;
+    }
     println!(rt)
 }
 
-// One line, and whether there was a sheet.
-fn line(rt: &impl Print, input: &mut impl io::Read) -> io::Result<bool> {
-    let mut bytes = [0u8; 4097];
-    let Read::Number(size) = vector_io::read_number(input, 2) else {
-        return Ok(false);
-    };
-    let n = size as usize;
-    if 4097 < n {
-        return Ok(false);
-    }
-    if input.read_exact(&mut bytes[0..n]).is_err() {
-        return Ok(false);
-    }
-    print_run(rt, &bytes[0..n])?;
-    Ok(true)
+// The next sheet, which is read into the front of the buffer.
+fn read_sheet<'a>(input: &mut impl io::Read, buffer: &'a mut [u8]) -> Option<&'a [u8]> {
+    let size = read_number(input, 2)?;
+    read_front(input, size as usize, buffer)
 }
 
 // A proved loop ends: 65,536 lines are more than are stored.
 fn main(rt: HostRuntime) -> io::Result<()> {
     let mut input = rt.stdin();
+    let mut buffer = [0u8; 4097];
     for _ in 0..65536 {
-        if !line(&rt, &mut input)? {
+        let Some(sheet) = read_sheet(&mut input, &mut buffer) else {
             break;
-        }
+        };
+        print_run(&rt, sheet)?;
     }
     Ok(())
 }

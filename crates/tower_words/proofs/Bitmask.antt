@@ -28,9 +28,9 @@ unfolding mask
 masked_none t = record { next = refl; last = refl; is = refl }
 
 -- nothing overflows
-pub masked_fits : {t : List ℕ} {sum power before i : ℕ} → i < 63 → Masked t sum power before i
-    → let b = bool_byte (ltb before (get_or t i 0)) in (b * power < 2 ^ 64) × (sum + b * power < 2 ^ 64) × (power * 2 < 2 ^ 64)
-masked_fits {t} {sum} {power} {before} {i} h s = go (ltb before (get_or t i 0))
+pub masked_fits : {t : List ℕ} {sum power before b i : ℕ} → i < 63 → b ≡ bool_byte (ltb before (get_or t i 0)) → Masked t sum power before i
+    → (b * power < 2 ^ 64) × (sum + b * power < 2 ^ 64) × (power * 2 < 2 ^ 64)
+masked_fits {t} {sum} {power} {before} {b} {i} h e s = rw e (go (ltb before (get_or t i 0)))
   where
     low : power ≤ 2 ^ 62
     low = rw s.next (pow_mono {i = i} {j = 62} (omega arith))
@@ -42,13 +42,13 @@ masked_fits {t} {sum} {power} {before} {i} h s = go (ltb before (get_or t i 0))
     go true = omega (arith, low, small)
     go false = omega (arith, low, small)
 
-pub masked_more : (t : List ℕ) (sum power before i : ℕ) → Tower (length t) t → i < length t → Masked t sum power before i
-    → Masked t (sum + bool_byte (ltb before (get_or t i 0)) * power) (power * 2) (get_or t i 0) (i + 1)
+pub masked_more : {t : List ℕ} {sum power before b i : ℕ} → Tower (length t) t → i < length t → b ≡ bool_byte (ltb before (get_or t i 0))
+    → Masked t sum power before i → Masked t (sum + b * power) (power * 2) (get_or t i 0) (i + 1)
 unfolding mask less
-masked_more t sum power before i c h s = record {
+masked_more {t} {sum} {power} {before} {b} {i} c h e s = record {
   next = ap (λ n. n * 2) s.next ∙ double ∙ ap (λ n. 2 ^ n) (sym (add-one i));
   last = ap (at t) (sym (add-one i));
-  is = ap₂ ◌+◌ s.is (ap₂ ◌*◌ test s.next) ∙ ap (mask p) (sym (add-one i));
+  is = ap₂ ◌+◌ s.is (ap₂ ◌*◌ (e ∙ test) s.next) ∙ ap (mask p) (sym (add-one i));
 }
   where
     p : ℕ → Bool

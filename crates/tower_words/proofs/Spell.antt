@@ -7,7 +7,7 @@ use native.Mathlib.Numerals.{add-one}
 use native.Mathlib.Omega.{arith}
 use borrow.Rule.Slice.PartMut.{put_mid, mid_of, mid_len}
 use lib.ListN.{length, get_or, take, drop, length-append, length-drop}
-use lib.Seq.{take_at, drop_at, drop-drop, take_all}
+use lib.Seq.{take_at, drop_at, drop-drop}
 use Rattle.lists.proofs.Prefix.{sum_prefix}
 use Rattle.perms.specs.Tower.{cycle, cycles, standard, total}
 use Rattle.perms.proofs.Standard.{standard_take}
@@ -64,8 +64,3 @@ spelled_more t word₀ word part at i h r s e = record {
       where
         past : at + (at + a - at) ≡ at + a
         past = omega arith
-
-pub spelled_all : (t word₀ word : List ℕ) (at i : ℕ) → length t ≤ i → Spelled t word₀ word at i → word ≡ standard t ++ drop (total t) word₀
-spelled_all t word₀ word at i h s =
-    let e = take_all i t h in
-    s.holds ∙ ap₂ {C = List ℕ} (λ x n. standard x ++ drop n word₀) e (s.letters ∙ ap total e)

@@ -1,4 +1,4 @@
-// The loops over the entries of a tower.
+// The loops over the entries of a tower. That the entries are a tower is asked of each, since the checks of `perm_calls` answer for a slice.
 
 ghost use Rattle.std.specs.Prelude.{◌≡◌, ◌++◌, ◌≤◌, length, drop};
 ghost use Rattle.perms.specs.Permutation.{descent};
@@ -8,14 +8,10 @@ pub(crate) fn total(tower: &[u8]) -> usize
     requires { length tower.now ≤ 63 }
     ensures { result ≡ total tower.now }
 {
-    let mut sum = 0;
-    for i in 0..tower.len() {
-        sum += tower[i] as usize;
-    }
-    sum
+    tower.iter().map(|a| usize::from(*a)).sum()
 }
 
-// The letters of a(j, k), where k is the size of the slice.
+// The letters of a(j, k), where k is the size of the slice. By index: of an adapter of `iter_mut` the prover knows nothing.
 fn fill_cycle(word: &mut [u8], j: u8)
     requires { length word.old ≤ j }
     ensures { word.new ≡ cycle j (length word.old) }
@@ -30,8 +26,8 @@ pub(crate) fn fill_word(tower: &[u8], word: &mut [u8])
     ensures { word.new ≡ standard tower.now ++ drop (total tower.now) word.old }
 {
     let mut at = 0;
-    for i in 0..tower.len() {
-        let end = at + tower[i] as usize;
+    for (i, a) in tower.iter().enumerate() {
+        let end = at + usize::from(*a);
         fill_cycle(&mut word[at..end], (i + 1) as u8);
         at = end;
     }
@@ -42,13 +38,13 @@ pub(crate) fn descent_mask(tower: &[u8]) -> u64
     ensures { result ≡ mask (descent (length tower.now) (images_of tower.now)) (length tower.now) }
 {
     let mut mask: u64 = 0;
+    // A shift by the index takes twice the time.
     let mut power: u64 = 1;
     let mut before: u8 = 0;
-    for i in 0..tower.len() {
-        let entry = tower[i];
-        mask += (before < entry) as u64 * power;
+    for a in tower {
+        mask += u64::from(before < *a) * power;
         power *= 2;
-        before = entry;
+        before = *a;
     }
     mask
 }

@@ -8,54 +8,47 @@
 ghost use Rattle.std.specs.Prelude.{◌≡◌};
 ghost use Rattle.perm_calls.specs.Calls.{length_call, standard_word_call, descents_call};
 
-use perm_calls::{Counted, Generators, checks};
-use refusals::Verdict;
+use perm_calls::{Generators, checks};
+use refusals::Refusal;
 
 mod entry_loops;
 
 // The length of a tower's permutation, the sum of the entries.
 // Refused: 5 over 63 entries; 7 the first entry a_j above j.
 // Example: 0 2 gives 2.
-pub fn length(tower: &[u8]) -> Counted
+#[tactic(auto, using(perm_calls::proofs::Verdicts::tower_accepted, perms::proofs::Lengths::len_images_of), unfolding(perm_calls::specs::Calls::length_call))]
+pub fn length(tower: &[u8]) -> Result<usize, Refusal>
     ensures { result ≡ length_call tower.now }
 {
-    let checked = checks::tower(tower);
-    if let Verdict::Refused(why) = checked {
-        return Counted::Refused(why);
-    }
-    Counted::Count(entry_loops::total(tower))
+    checks::tower(tower)?;
+    Ok(entry_loops::total(tower))
 }
 
 // The standard shortest word of a tower's permutation, and the number of its letters. Bytes after them stay.
 // Refused: 5 over 63 entries; 7 the first entry a_j above j; 8 a buffer shorter than the word.
 // Example: 0 2 gives the word 2 1.
-pub fn standard_word(tower: &[u8], word: &mut [u8]) -> Counted
+#[tactic(auto, using(perm_calls::proofs::Verdicts::tower_accepted, perm_calls::proofs::Verdicts::room_accepted, perms::proofs::Lengths::len_images_of, perms::proofs::Lengths::length_standard), unfolding(perm_calls::specs::Calls::standard_word_call, refusals::specs::Refusals::ended))]
+pub fn standard_word(tower: &[u8], word: &mut [u8]) -> Result<usize, Refusal>
     ensures { standard_word_call tower.now word.old ≡ record { answer = result; lent = word.new } }
 {
-    let checked = checks::tower(tower);
-    if let Verdict::Refused(why) = checked {
-        return Counted::Refused(why);
-    }
+    checks::tower(tower)?;
     let letters = entry_loops::total(tower);
-    let fits = checks::room(word.len(), letters);
-    if let Verdict::Refused(why) = fits {
-        return Counted::Refused(why);
-    }
+    checks::room(word.len(), letters)?;
     entry_loops::fill_word(tower, word);
-    Counted::Count(letters)
+    Ok(letters)
 }
 
 // The descent set of a tower's permutation w, the s_i with a shorter s_i w.
 // Refused: 5 over 63 entries; 7 the first entry a_j above j.
 // Example: 0 2 gives the mask 2, with one generator.
-pub fn descents(tower: &[u8]) -> Generators
+#[tactic(auto, using(perm_calls::proofs::Verdicts::tower_accepted, perms::proofs::Mask::ones_mask), unfolding(perm_calls::specs::Calls::descents_call))]
+pub fn descents(tower: &[u8]) -> Result<Generators, Refusal>
     ensures { result ≡ descents_call tower.now }
 {
-    let checked = checks::tower(tower);
-    if let Verdict::Refused(why) = checked {
-        return Generators::Refused(why);
-    }
+    checks::tower(tower)?;
     let mask = entry_loops::descent_mask(tower);
-    let count = u64::count_ones(mask);
-    Generators::Set { mask, count }
+    Ok(Generators {
+        mask,
+        count: mask.count_ones(),
+    })
 }

@@ -6,7 +6,7 @@ use Prim.Native.Nat.{ℕ, suc, ◌+◌, ◌-◌, ◌≤◌, ◌<◌}
 use native.Mathlib.Numerals.{add-one}
 use native.Mathlib.Omega.{arith}
 use lib.ListN.{length, get_or, set, take, drop, length-set, length-append, length-drop}
-use lib.Seq.{length-take-le, take_at, take_all, take-suc-set, get_or-take}
+use lib.Seq.{length-take-le, take_at, take-suc-set, get_or-take}
 use Rattle.lists.specs.Lists.{range}
 use Rattle.perms.specs.Permutation.{identity, Perm}
 use Rattle.perms.specs.Extend.{extend}
@@ -30,11 +30,11 @@ grown_small t images i c h g k l =
     omega (arith, get_or-take (i + 1) images k 0 l, ap (λ w. get_or w k 0) g.first, perm_image (images_of (take i t)) p k (omega (arith, p.size)))
 
 pub grown_more : (t images next : List ℕ) (i : ℕ) → Tower (length t) t → i < length t → Grown t images i
-    → next ≡ extend (i + 1 + 1 - get_or t i 0) (take (i + 1) images) ++ drop (suc (i + 1)) images → Grown t next (i + 1)
+    → next ≡ extend (i + 2 - get_or t i 0) (take (i + 1) images) ++ drop (suc (i + 1)) images → Grown t next (i + 1)
 grown_more t images next i c h g e = record { size = ap length e ∙ whole; first = ap (take (i + 1 + 1)) e ∙ take_at front back (i + 1 + 1) long ∙ new }
   where
     x : ℕ
-    x = i + 1 + 1 - get_or t i 0
+    x = i + 2 - get_or t i 0
 
     front : List ℕ
     front = extend x (take (i + 1) images)
@@ -50,6 +50,3 @@ grown_more t images next i c h g e = record { size = ap length e ∙ whole; firs
 
     new : front ≡ images_of (take (i + 1) t)
     new = ap₂ extend (omega arith) g.first ∙ sym (ap (λ n. images_of (take n t)) (add-one i) ∙ images_of_take t i c h)
-
-pub grown_all : (t images : List ℕ) (i : ℕ) → length t ≤ i → Grown t images i → images ≡ images_of t
-grown_all t images i h g = sym (take_all (i + 1) images (omega (arith, g.size))) ∙ g.first ∙ ap images_of (take_all i t h)

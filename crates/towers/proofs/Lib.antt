@@ -1,5 +1,3 @@
-mod Arrays
 mod Scatter
 mod Extended
 mod Grow
-mod TwoTowers

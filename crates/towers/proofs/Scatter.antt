@@ -1,5 +1,5 @@
 -- A loop that stores each point i + 1 at the index of its image makes the inverse. Rests on perms' Inverses.
-use mathlib.Core.Path.{◌≡◌, refl, ap, ◌∙◌}
+use mathlib.Core.Path.{◌≡◌, ap, ◌∙◌}
 use mathlib.Core.List.{List}
 use Prim.Native.Nat.{ℕ, suc, pred, ◌+◌, ◌-◌, ◌≤◌, ◌<◌}
 use native.Mathlib.Omega.{arith}
@@ -14,9 +14,6 @@ use Rattle.perms.proofs.Inverses.{inverse_of_scatter}
 pub record Scattered (w points₀ points : List ℕ) (i : ℕ) : Type 0 where
   pub same : length points ≡ length points₀
   pub done : (k : ℕ) → k < i → get_or points (pred (get_or w k 0)) 0 ≡ suc k
-
-pub scattered_none : (w points : List ℕ) → Scattered w points points 0
-scattered_none w points = record { same = refl; done = λ k l. absurd (omega arith) }
 
 pub scattered_more : {m : ℕ} (w points₀ points : List ℕ) (i : ℕ) → Perm m w → length points₀ ≡ length w → i < length w → Scattered w points₀ points i
     → Scattered w points₀ (set points (get_or w i 0 - 1) (i + 1)) (i + 1)

@@ -2,8 +2,7 @@
 --
 --   OneTower t result        a tower t of at most 63 entries, and a buffer for a tower of its size
 --   TwoTowers t u result     two towers of one size, at most 63 entries, and a buffer for a third
---   ListBuffers m x y        two buffers for image lists of rank m
-use Rattle.std.specs.Prelude.{◌≡◌, List, ℕ, suc, ◌≤◌, length}
+use Rattle.std.specs.Prelude.{◌≡◌, List, ℕ, ◌≤◌, length}
 use Rattle.perms.specs.Tower.{Tower}
 
 pub record OneTower (t result : List ℕ) : Type 0 where
@@ -16,7 +15,3 @@ pub record TwoTowers (t u result : List ℕ) : Type 0 where
   pub left : Tower (length t) t
   pub right : Tower (length t) u
   pub result_size : length result ≡ length t
-
-pub record ListBuffers (m : ℕ) (x y : List ℕ) : Type 0 where
-  pub x_size : length x ≡ suc m
-  pub y_size : length y ≡ suc m

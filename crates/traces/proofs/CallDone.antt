@@ -1,6 +1,6 @@
 -- The call of a trace that passes its checks: the element is copied to the front of the scratch and traced there, and the scratch is
 -- cleared. Rests on ranks' Sizes, element_calls' Verdicts and Calls, and word_lists' Into.
-use mathlib.Core.Path.{◌≡◌, sym, ap, ◌∙◌}
+use mathlib.Core.Path.{◌≡◌, refl, sym, ap, ◌∙◌}
 use mathlib.Core.List.{List, ◌++◌}
 use Prim.Native.Nat.{ℕ, suc, ◌+◌, ◌-◌, ◌^◌, ◌≤◌, ◌<◌}
 use native.Mathlib.Omega.{arith}
@@ -9,7 +9,6 @@ use lib.Seq.{length-take-le, take_at, drop_at, drop-drop}
 use borrow.Rule.Slice.PartMut.{same_len_mid}
 use Rattle.lists.specs.Numbers.{factorial}
 use Rattle.refusals.specs.Refusals.{◌then◌}
-use Rattle.refusals.specs.declared.Verdict.TheVariants.{Accepted}
 use Rattle.algebra.proofs.Modular.{below}
 use Rattle.markov_trace.specs.Trace.{trace}
 use Rattle.word_lists.specs.Into.{load_into}
@@ -22,6 +21,7 @@ use Rattle.element_calls.specs.Calls.{rank_verdict, size_verdict, scratch_verdic
 use Rattle.element_calls.proofs.Verdicts.{trace_accepted}
 use Rattle.element_calls.proofs.Calls.{give_done}
 use Rattle.traces.specs.Steps.{TracePre}
+use Rattle.std.specs.Prelude.{Ok}
 
 -- the first s words of w were lent and came back as v: from k on, the words are as they were
 drop_back : (s k : ℕ) (w v : List ℕ) → s ≤ k → s ≤ length w → length v ≡ length (take (s - 0) w) → drop k (v ++ drop (s - 0) w) ≡ drop k w
@@ -33,8 +33,13 @@ drop_back s k w v h fits e =
 
 -- the checks accept, and s words of scratch take the element
 pub record Checked (m s : ℕ) (h w : List ℕ) : Type 0 where
-  pub verdict : (rank_verdict m then size_verdict m (length h) then scratch_verdict m (length w)) ≡ Accepted
+  pub verdict : (rank_verdict m then size_verdict m (length h) then scratch_verdict m (length w)) ≡ Ok tt
   pub size : s ≡ size m
+
+-- one check after another
+pub checked : {m s : ℕ} {h w : List ℕ} → Ok tt ≡ rank_verdict m → Ok tt ≡ size_verdict m (length h) → Ok tt ≡ scratch_verdict m (length w) → s ≡ size m
+    → Checked m s h w
+checked a b c size = record { verdict = rw (← a, ← b, ← c) refl; size = size }
 
 module _ {m s : ℕ} {h w : List ℕ} (c : Checked m s h w) where
   sizes : (m ≤ 6) × (length h ≡ factorial (suc m)) × (needed m ≤ length w)
@@ -101,7 +106,7 @@ module _ {m s : ℕ} {h w : List ℕ} (c : Checked m s h w) where
 
       pub call_done : (q z : ℕ) {n x : ℕ} {p : Parameters} {t : List ℕ} → p ≡ parameters_of q → n ≡ scratch_size m
           → x ≡ trace ℕ (ring p) p.q p.r z m (take (s - 0) w₁) → t ≡ replicate (length (take (n - 0) w₂)) 0
-          → trace_call m q z h w ≡ record { answer = record { verdict = Accepted; value = x }; lent = t ++ drop (n - 0) w₂ }
+          → trace_call m q z h w ≡ record { answer = Ok x; lent = t ++ drop (n - 0) w₂ }
       unfolding trace_call
       call_done q z ep en ex et =
           let value = ex ∙ ap (λ (p : Parameters). trace ℕ (ring p) p.q p.r z m (take (s - 0) w₁)) ep ∙ ap (trace ℕ _ _ _ z m) lent in

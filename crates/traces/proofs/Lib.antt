@@ -1,4 +1,3 @@
-mod FirstBlock
 mod Gathering
 mod Turning
 mod Lowering

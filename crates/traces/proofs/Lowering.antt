@@ -5,13 +5,12 @@ use mathlib.Core.List.{List, ◌++◌}
 use Prim.Native.Nat.{ℕ, zero, suc, ◌+◌, ◌-◌, ◌*◌, ◌≤◌, ◌<◌}
 use native.Mathlib.Nat.{zero-mul}
 use native.Mathlib.Omega.{arith}
-use lib.ListN.{length, take, drop, length-drop}
-use lib.Seq.{take_at, drop_at, take_all, length-take-le}
-use borrow.Rule.Slice.PartMut.{mid_of, put_mid}
+use lib.ListN.{length, take, drop}
+use lib.Seq.{take_at, length-take-le}
 use Rattle.lists.specs.Blocks.{block, blocks}
 use Rattle.lists.proofs.Blocks.{block_size, block_drop}
 use Rattle.lists.proofs.BlockOf.{block_of}
-use Rattle.lists.proofs.Parts.{fits_block, rest_put}
+use Rattle.lists.proofs.Parts.{fits_block}
 use Rattle.perms.specs.Tower.{cycle}
 use Rattle.algebra.specs.Element.{plus, scale}
 use Rattle.algebra.specs.Product.{act}
@@ -20,6 +19,8 @@ use Rattle.markov_trace.specs.Trace.{sums, turned, lowered}
 use Rattle.markov_trace.proofs.Lengths.{sums_length}
 use Rattle.element_calls.specs.declared.Parameters.{Parameters}
 use Rattle.element_calls.specs.Coefficients.{ring}
+use Rattle.block_loops.specs.InPlace.{add_multiple}
+use Rattle.block_loops.proofs.Fits.{multiple_fits}
 use Rattle.traces.specs.Steps.{LevelPre}
 use Rattle.traces.proofs.Turning.{on_block}
 
@@ -37,44 +38,36 @@ module _ (p : Parameters) (m b : ℕ) (x₀ x : List ℕ) (pre : LevelPre m b x�
   own : (k : ℕ) → k < m + 2 → block b k x ≡ on_block p m k (block b k x₀)
   own k l = ap (block b k) turned-is ∙ block_of b (λ k. on_block p m k (block b k x₀)) (m + 2) k own_size l
 
-  -- the blocks after the first are lent, and come back as u
-  module _ (same : length x ≡ length x₀) where
-    pub two : b + b ≤ length x
+  -- the blocks after the first come back as u
+  module _ (same : length x ≡ length x₀) {f o u : List ℕ} (first-is : f ≡ take b x) (others-is : o ≡ drop b x)
+      (eu : u ≡ sums ℕ (ring p) 0 m (λ k. block b k o) ++ drop b o) where
+    two : b + b ≤ length x
     two = omega (arith, same, pre.size, fits_block 1 (m + 2) b ((m + 2) * b) (omega arith) (omega arith))
 
-    rest : mid_of b (length x - b) x ≡ drop b x
-    rest = take_all (length x - b) (drop b x) (omega (arith, length-drop b x))
+    first_size : length f ≡ b
+    first_size = ap length first-is ∙ length-take-le b x (omega (arith, two))
 
-    summed : sums ℕ (ring p) 0 m (λ k. block b k (mid_of b (length x - b) x)) ≡ sums ℕ (ring p) 1 m (λ k. on_block p m k (block b k x₀))
+    first : f ≡ block b 0 x₀
+    unfolding block act cycle
+    first = first-is ∙ ap (λ (n : ℕ). take b (drop n x)) (sym (zero-mul b)) ∙ own 0 (omega arith)
+
+    summed : sums ℕ (ring p) 0 m (λ k. block b k o) ≡ sums ℕ (ring p) 1 m (λ k. on_block p m k (block b k x₀))
     summed = sums_shift p 0 1 m _ _ (λ i l.
         let e : 0 + i ≡ i = omega arith in let one : b ≡ 1 * b = omega arith in
-        ap (λ (y : List ℕ). block b (0 + i) y) rest ∙ ap₂ {C = List ℕ} (λ n k. block b k (drop n x)) one e ∙ block_drop b 1 i x ∙ own (1 + i) (omega arith))
+        ap (λ (y : List ℕ). block b (0 + i) y) others-is ∙ ap₂ {C = List ℕ} (λ n k. block b k (drop n x)) one e ∙ block_drop b 1 i x ∙ own (1 + i) (omega arith))
 
-    module _ (u : List ℕ) (eu : u ≡ sums ℕ (ring p) 0 m (λ k. block b k (mid_of b (length x - b) x)) ++ drop b (mid_of b (length x - b) x)) where
-      abbrev y : List ℕ
-      y = put_mid b (length x - b) x u
+    sum_size : length (sums ℕ (ring p) 1 m (λ k. on_block p m k (block b k x₀))) ≡ b
+    sum_size = sums_length ℕ (ring p) b 1 m _ (λ k i j. own_size k (omega arith))
 
-      y_is : y ≡ take b x ++ u
-      y_is = rest_put b x u
+    second : take b u ≡ sums ℕ (ring p) 1 m (λ k. on_block p m k (block b k x₀))
+    second = ap (take b) (eu ∙ ap (λ (t : List ℕ). t ++ drop b o) summed) ∙ take_at _ (drop b o) b sum_size
 
-      first_size : length (take b x) ≡ b
-      first_size = length-take-le b x (omega (arith, two))
+    pub level_done : (z : ℕ) (v : List ℕ) → v ≡ plus ℕ (ring p) f (scale ℕ (ring p) z (take b u)) → v ≡ lowered ℕ (ring p) p.q p.r z m x₀
+    unfolding lowered turned
+    level_done z v e =
+        e ∙ ap₂ (λ s t. plus ℕ (ring p) s (scale ℕ (ring p) z t)) first second
+        ∙ ap (λ (n : ℕ). plus ℕ (ring p) (block n 0 x₀) (scale ℕ (ring p) z (sums ℕ (ring p) 1 m (λ k. on_block p m k (block n k x₀))))) pre.block_size
 
-      first : take b y ≡ block b 0 x₀
-      unfolding block act cycle
-      first =
-          ap (take b) y_is ∙ take_at (take b x) u b first_size ∙ ap (λ (n : ℕ). take b (drop n x)) (sym (zero-mul b)) ∙ own 0 (omega arith)
-
-      second : block b 1 y ≡ sums ℕ (ring p) 1 m (λ k. on_block p m k (block b k x₀))
-      unfolding block
-      second =
-          let one : 1 * b ≡ b = omega arith in
-          ap₂ {C = List ℕ} (λ n t. take b (drop n t)) one y_is ∙ ap (take b) (drop_at (take b x) u b first_size ∙ eu ∙ ap (λ (t : List ℕ). t ++ drop b (mid_of b (length x - b) x)) summed)
-          ∙ take_at _ (drop b (mid_of b (length x - b) x)) b
-          (sums_length ℕ (ring p) b 1 m _ (λ k i j. own_size k (omega arith)))
-
-      pub level_done : (z : ℕ) (v : List ℕ) → v ≡ plus ℕ (ring p) (take b y) (scale ℕ (ring p) z (block b 1 y)) → v ≡ lowered ℕ (ring p) p.q p.r z m x₀
-      unfolding lowered turned
-      level_done z v e =
-          e ∙ ap₂ (λ s t. plus ℕ (ring p) s (scale ℕ (ring p) z t)) first second
-          ∙ ap (λ (n : ℕ). plus ℕ (ring p) (block n 0 x₀) (scale ℕ (ring p) z (sums ℕ (ring p) 1 m (λ k. on_block p m k (block n k x₀))))) pre.block_size
+    pub level_added : (z : ℕ) (v : List ℕ) → length v ≡ length f → v ≡ add_multiple p f z (take b u) → take b (v ++ u) ≡ lowered ℕ (ring p) p.q p.r z m x₀
+    level_added z v ev e =
+        take_at v u b (ev ∙ first_size) ∙ level_done z v (e ∙ multiple_fits p f z (take b u) (first_size ∙ sym (ap length second ∙ sum_size)))

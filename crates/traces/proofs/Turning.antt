@@ -1,7 +1,7 @@
 -- The blocks of an element of rank m + 1 after the first are turned, one after another. Rests on lists' Parts and Passed.
 --
 --   on_block p m k y   y T_a(m,k-1), for y of rank m; y itself for k = 0
-use mathlib.Core.Path.{◌≡◌, refl, sym, ap, ◌∙◌, subst}
+use mathlib.Core.Path.{◌≡◌, refl, sym, ap, ◌∙◌}
 use mathlib.Core.List.{List}
 use Prim.Native.Nat.{ℕ, ◌+◌, ◌-◌, ◌*◌, ◌≤◌, ◌<◌}
 use native.Mathlib.Nat.{zero-mul}
@@ -9,7 +9,7 @@ use native.Mathlib.Omega.{arith}
 use lib.ListN.{length, take, drop}
 use Rattle.lists.specs.Blocks.{block, blocks}
 use Rattle.lists.proofs.Parts.{fits_block}
-use Rattle.lists.proofs.Passed.{Passed, passed_all}
+use Rattle.lists.proofs.Passed.{Passed}
 use Rattle.perms.specs.Tower.{cycle}
 use Rattle.algebra.specs.Product.{act}
 use Rattle.element_calls.specs.declared.Parameters.{Parameters}
@@ -28,6 +28,3 @@ first_passed p m b x =
 module _ {m b k : ℕ} {f : ℕ → List ℕ → List ℕ} {x₀ x : List ℕ} (pre : LevelPre m b x₀) (past : Passed b f x₀ x k) where
   pub turn_fits : k < m + 2 → k * b + b ≤ length x
   turn_fits h = fits_block k (m + 2) b (length x) h (omega (arith, past.same, pre.size))
-
-  pub turned_all : k ≡ m + 2 → x ≡ blocks (m + 2) (λ i. f i (block b i x₀))
-  turned_all h = passed_all (subst (Passed b f x₀ x) h past) pre.size

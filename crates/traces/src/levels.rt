@@ -9,20 +9,20 @@ ghost use Rattle.element_calls.specs.Coefficients.{ring};
 ghost use Rattle.traces.specs.Steps.{TurnPre, LevelPre};
 
 use crate::blocks;
-use block_loops::Way;
+use block_loops::Forward;
 use element_calls::Parameters;
 
-// x T_a(m,l) in the place of x, of rank m: the letters m, m - 1, .., m - l + 1.
+// x T_a(m,l) in the place of x, of rank m: the letters m, m - 1, .., m - l + 1, by their number, which a falling range would bound twice.
 fn turn(x: &mut [u64], m: usize, l: usize, p: Parameters)
     requires { TurnPre m l x.old }
     ensures { x.new ≡ act ℕ (ring p) p.q p.r m (cycle m l) x.old }
 {
     for i in 0..l {
-        letters::letter(x, m, m - i, Way::Forward, p);
+        letters::letter::<Forward>(x, m, m - i, p);
     }
 }
 
-// T_a(m,k-1) acts on each block k of x after the first.
+// T_a(m,k-1) acts on each block k of x after the first, lent as the part from k b on, as document 01 asks.
 fn turn_each(x: &mut [u64], m: usize, b: usize, p: Parameters)
     requires { LevelPre m b x.old }
     ensures { x.new ≡ blocks (m + 2) (λ k. act ℕ (ring p) p.q p.r m (cycle m (k - 1)) (block b k x.old)) }
@@ -41,6 +41,7 @@ pub(crate) fn lower(x: &mut [u64], m: usize, b: usize, z: u64, p: Parameters)
     ensures { take b x.new ≡ lowered ℕ (ring p) p.q p.r z m x.old }
 {
     turn_each(x, m, b, p);
-    blocks::gather_each(&mut x[b..], b, m, p);
-    blocks::fold(x, b, z, p);
+    let (first, others) = x.split_at_mut(b);
+    blocks::gather_each(others, b, m, p);
+    block_loops::add_multiple(first, z, &others[..b], p);
 }

@@ -8,9 +8,9 @@ ghost use Rattle.element_calls.specs.Calls.{trace_call};
 ghost use Rattle.element_calls.specs.Coefficients.{ring};
 ghost use Rattle.traces.specs.Steps.{TracePre};
 
-use element_calls::{Parameters, Valued};
+use element_calls::Parameters;
 use element_checks::{checks, parameters_of};
-use refusals::{Verdict, then};
+use refusals::Refusal;
 
 mod blocks;
 mod levels;
@@ -34,25 +34,18 @@ fn traced(x: &mut [u64], m: usize, z: u64, p: Parameters) -> u64
 // zero afterwards, and the rest as before.
 // Refused: 1 a rank above 6; 2 a slice that is not M words; 3 scratch of fewer than (m + 6) M words.
 // Example: of rank 1, for every q, 2 3 and z = 5 give 17.
-pub fn trace(m: usize, q: u64, z: u64, element: &[u64], scratch: &mut [u64]) -> Valued
+#[tactic(auto, unfolding(element_calls::specs::Calls::trace_call, refusals::specs::Refusals::ended))]
+pub fn trace(m: usize, q: u64, z: u64, element: &[u64], scratch: &mut [u64]) -> Result<u64, Refusal>
     ensures { trace_call m q z element.now scratch.old
         ≡ record { answer = result; lent = scratch.new } }
 {
-    let sized = then(checks::rank(m), checks::sized(m, element.len()));
-    let checked = then(sized, checks::scratch(m, scratch.len()));
-    if let Verdict::Refused(why) = checked {
-        return Valued {
-            verdict: Verdict::Refused(why),
-            value: 0,
-        };
-    }
+    checks::rank(m)?;
+    checks::sized(m, element.len())?;
+    checks::scratch(m, scratch.len())?;
     let size = ranks::size(m);
     word_lists::load(&mut scratch[0..size], element, 0);
     let value = traced(&mut scratch[0..size], m, z, parameters_of(q));
     let need = ranks::scratch_size(m);
     word_lists::clear(&mut scratch[0..need]);
-    Valued {
-        verdict: Verdict::Accepted,
-        value,
-    }
+    Ok(value)
 }

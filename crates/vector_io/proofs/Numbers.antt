@@ -1,31 +1,40 @@
--- The number of some bytes: how large it is, and how a loop reads it, from the last byte to the first. Rests on the definitions alone.
-use mathlib.Core.Path.{◌≡◌, ap, ◌∙◌}
-use mathlib.Core.List.{List, [], ◌∷◌}
-use Prim.Native.Nat.{ℕ, suc, ◌+◌, ◌*◌, ◌-◌, ◌^◌, ◌≤◌, ◌<◌}
-use native.Mathlib.Nat.{pow-le-pow_right}
-use native.Mathlib.Omega.{arith}
-use lib.ListN.{length, get_or, drop, length-drop}
-use lib.Seq.{drop-cons, get_or-drop}
+-- The number of some bytes: what the library reads of eight bytes, and how large it is where the last bytes are zeros. Rests on the definitions alone.
+use Rattle.std.proofs.Common.{◌≡◌, ℕ, zero, suc, ◌+◌, ◌*◌, ◌-◌, ◌^◌, ◌≤◌, ◌<◌, List, [], ◌∷◌, ◌++◌, length, get_or, take, drop, replicate, refl, ap, ◌∙◌, arith}
+use Rattle.std.proofs.lemmas.List.{drop-replicate, drop_all}
+use lib.Seq.{drop_at, length-take-le}
+use Rattle.std.specs.Int.{w64, from_le_bytes}
 use Rattle.vector_io.specs.Numbers.{number}
 
 abbrev Bytes : List ℕ → Type 0
 Bytes x = (i : ℕ) → get_or x i 0 < 2 ^ 8
 
-pub number_below : (x : List ℕ) → Bytes x → number x < 256 ^ length x
+pub zeros_after : (x : List ℕ) (n : ℕ) → Bytes x → number (drop n x) ≡ 0 → number x < 256 ^ n
 unfolding number
-number_below [] b = omega arith
-number_below (y ∷ x) b = let e : y + 256 * number x < 256 ^ suc (length x) = omega (arith, b 0, number_below x (λ i. b (suc i))) in e
+zeros_after x zero b e = omega (arith, e)
+zeros_after [] (suc n) b e = let h : 0 < 256 ^ n = zeros_after [] n b (ap number (drop_all n [] (omega arith))) in omega (arith, h)
+zeros_after (y ∷ x) (suc n) b e = let h : number x < 256 ^ n = zeros_after x n (λ i. b (suc i)) e in omega (arith, b 0, h)
 
--- the number of the bytes from i on, where there are eight at most
-pub fits : (x : List ℕ) (i : ℕ) → Bytes x → length x ≤ 8 → number (drop i x) < 2 ^ 64
-fits x i b l = let e = length-drop i x in omega (
-  arith,
-  number_below (drop i x) (λ j. rw (get_or-drop i x j 0) (b (i + j))),
-  pow-le-pow_right {n = 256} (omega arith) {i = length (drop i x)} {j = 8} (omega arith),
-)
-
-pub one_more : (x : List ℕ) {i : ℕ} → 0 < i → i ≤ length x → number (drop (i - 1) x) ≡ get_or x (i - 1) 0 + 256 * number (drop i x)
+zeros : (m : ℕ) → number (replicate m 0) ≡ 0
 unfolding number
-one_more x {i} p l =
-    let e : suc (i - 1) ≡ i = omega arith in
-    ap number (drop-cons x (i - 1) 0 (omega arith)) ∙ ap (λ n. get_or x (i - 1) 0 + 256 * number (drop n x)) e
+zeros zero = refl
+zeros (suc m) = omega (arith, zeros m)
+
+-- of eight bytes, those after the first n are zeros
+pub padded : (x : List ℕ) (n : ℕ) → n ≤ 8 → length x ≡ length (take (n - 0) (replicate {A = ℕ} 8 0)) → number (drop n (x ++ drop (n - 0) (replicate 8 0))) ≡ 0
+padded x n h e =
+    let all : n - 0 ≡ n = omega arith in
+    let size : length x ≡ n = e ∙ length-take-le (n - 0) (replicate {A = ℕ} 8 0) (omega arith) ∙ all in
+    ap number (drop_at x (drop (n - 0) (replicate 8 0)) n size ∙ drop-replicate {X = ℕ} (n - 0) 8 0) ∙ zeros (8 - (n - 0))
+
+next : (x : List ℕ) (i : ℕ) → number (drop i x) ≡ get_or x i 0 + 256 * number (drop (suc i) x)
+unfolding number
+next [] zero = refl
+next [] (suc i) = refl
+next (y ∷ x) zero = refl
+next (y ∷ x) (suc i) = next x i
+
+pub eight_bytes : (x : List ℕ) → length x ≡ 8 → from_le_bytes w64 x ≡ number x
+unfolding number
+eight_bytes x l =
+    let none : number (drop 8 x) ≡ 0 = ap number (drop_all 8 x (omega arith)) in
+    omega (arith, next x 0, next x 1, next x 2, next x 3, next x 4, next x 5, next x 6, next x 7, none)

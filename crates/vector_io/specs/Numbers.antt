@@ -2,14 +2,12 @@
 --
 --   number x        the number of the bytes x, the lowest first
 --   Below size r    if r is a number, then size is at most 8, and the number below 256^size
-use Rattle.std.specs.Prelude.{List, [], ◌∷◌, ℕ, ◌+◌, ◌*◌, ◌^◌, ◌≤◌, ◌<◌}
-use Rattle.vector_io.specs.declared.Read.{Read}
-use Rattle.vector_io.specs.declared.Read.TheVariants.{Number, End}
+use Rattle.std.specs.Prelude.{List, [], ◌∷◌, ℕ, ◌+◌, ◌*◌, ◌^◌, ◌≤◌, ◌<◌, Option, Some, None}
 
 unfoldable pub number : List ℕ → ℕ
 number [] = 0
 number (b ∷ x) = b + 256 * number x
 
-abbrev pub Below : ℕ → Read → Type 0
-Below size (Number n) = (size ≤ 8) × (n < 256 ^ size)
-Below size End = Unit {0}
+abbrev pub Below : ℕ → Option ℕ → Type 0
+Below size (Some n) = (size ≤ 8) × (n < 256 ^ size)
+Below size None = Unit {0}

@@ -2,47 +2,44 @@
 
 #![tactic(auto)]
 
-ghost use Rattle.std.specs.Prelude.{◌≡◌, ◌^◌, ◌<◌, ◌≤◌, length};
+ghost use Rattle.std.specs.Prelude.{◌≡◌, ℕ, ◌^◌, ◌<◌, length, drop, IfSome};
 ghost use Rattle.vector_io.specs.Numbers.{number, Below};
 
 use std::io;
 
-// What is read of the input: a number, or nothing more.
-#[derive(Clone, Copy)]
-pub enum Read {
-    Number(u64),
-    End,
-}
-
-// The number of at most eight bytes, the lowest first.
-fn word_of(bytes: &[u8]) -> u64
-    requires { length bytes.now ≤ 8 }
+// The number of eight bytes, the lowest first. Where those from n on are zeros, it is below 256^n.
+fn word_of(bytes: &[u8; 8]) -> u64
     ensures value { result ≡ number bytes.now }
-    ensures below { result < 256 ^ length bytes.now }
+    ensures below { (n : ℕ) → number (drop n bytes.now) ≡ 0 → result < 256 ^ n }
 {
-    let mut word = 0;
-    let mut i = bytes.len();
-    while 0 < i {
-        i -= 1;
-        word = bytes[i] as u64 + 256 * word;
-    }
-    word
+    u64::from_le_bytes(*bytes)
 }
 
 // The number that the next bytes make, at most eight of them, the lowest first.
 // Example: the bytes 2 1, with size 2, make 258.
-pub fn read_number(input: &mut impl io::Read, size: usize) -> Read
+pub fn read_number(input: &mut impl io::Read, size: usize) -> Option<u64>
     ensures { Below size result }
 {
     if 8 < size {
-        return Read::End;
+        return None;
     }
     let mut space = [0u8; 8];
-    let bytes = &mut space[0..size];
-    if input.read_exact(bytes).is_err() {
-        return Read::End;
-    }
-    Read::Number(word_of(bytes))
+    input.read_exact(&mut space[0..size]).ok()?;
+    Some(word_of(&space))
+}
+
+// The next bytes, as many as the size says, which are put at the front of the space.
+// Example: of the bytes 2 1 3, with size 2, they are 2 1.
+pub fn read_front<'a>(
+    input: &mut impl io::Read,
+    size: usize,
+    space: &'a mut [u8],
+) -> Option<&'a [u8]>
+    ensures { IfSome result (λ bytes. length bytes.now ≡ size) }
+{
+    let bytes = space.get_mut(..size)?;
+    input.read_exact(bytes).ok()?;
+    Some(bytes)
 }
 
 // A space and the number.

@@ -10,9 +10,11 @@ use native.Mathlib.Omega.{arith}
 use lib.ListN.{length, get_or, take}
 use lib.Seq.{take-suc, take_all}
 use lib.IntN.{ℤ, pos, negsuc, nat_abs}
+use lib.Signed.{lt_z}
+use Rattle.lists.specs.Lists.{less}
+use Rattle.lists.proofs.Test.{less_true}
 use Rattle.lists.specs.Numbers.{factorial}
 use Rattle.algebra.proofs.OnPairs.{on_pairs_length}
-use Rattle.signed_words.specs.Words.{is_below}
 use Rattle.element_calls.specs.declared.Parameters.{Parameters}
 use Rattle.element_calls.specs.Coefficients.{ring}
 use Rattle.block_loops.specs.declared.Way.TheVariants.{Forward, Backward}
@@ -23,14 +25,13 @@ use Rattle.word_actions.specs.Steps.{signed_lettered, signed_acted}
 -- ---- one letter
 
 module _ (p p' : Parameters) (m : ℕ) (x : List ℕ) where
-  pub forward_is : (z : ℤ) → is_below z ≡ false → lettered Forward p m (nat_abs z) x ≡ signed_lettered p p' m z x
-  unfolding is_below
+  pub forward_is : (z : ℤ) → lt_z z (pos 0) ≡ false → lettered Forward p m (nat_abs z) x ≡ signed_lettered p p' m z x
   forward_is (pos n) e = refl
   forward_is (negsuc n) e = let y : ◌≡◌ {A = ℕ} 0 1 = cc in absurd (omega arith)
 
-  pub backward_is : (z : ℤ) → is_below z ≡ true → lettered Backward p' m (nat_abs z) x ≡ signed_lettered p p' m z x
-  unfolding is_below
-  backward_is (pos n) e = let y : ◌≡◌ {A = ℕ} 0 1 = cc in absurd (omega arith)
+  pub backward_is : (z : ℤ) → lt_z z (pos 0) ≡ true → lettered Backward p' m (nat_abs z) x ≡ signed_lettered p p' m z x
+  unfolding less
+  backward_is (pos n) e = absurd (omega (arith, less_true n 0 e))
   backward_is (negsuc n) e = refl
 
   lettered_length : (z : ℤ) → length (signed_lettered p p' m z x) ≡ factorial (suc m)

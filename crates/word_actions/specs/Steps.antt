@@ -2,11 +2,9 @@
 --
 --   signed_lettered p p' m z x   the letter z on x, of rank m: with p, or below 0 with p'
 --   signed_acted p p' m x h      h, of rank m, acted on by the signed letters x, left to right
---   LettersPre, ..               what the functions require
+--   ActionPre m L x              what the functions require: x is of rank m, and so are the letters, as L says
 use Rattle.std.specs.Prelude.{◌≡◌, List, [], ◌∷◌, ℕ, suc, ◌≤◌, length, ℤ, pos, negsuc}
 use Rattle.lists.specs.Numbers.{factorial}
-use Rattle.perms.specs.Permutation.{Word}
-use Rattle.signed_words.specs.Words.{SignedLetter, SignedWord}
 use Rattle.element_calls.specs.declared.Parameters.{Parameters}
 use Rattle.block_loops.specs.declared.Way.TheVariants.{Forward, Backward}
 use Rattle.letters.specs.Letters.{lettered}
@@ -20,17 +18,7 @@ module _ (p p' : Parameters) (m : ℕ) where
   signed_acted [] h = h
   signed_acted (z ∷ x) h = signed_acted x (signed_lettered z h)
 
-pub record LettersPre (m : ℕ) (word x : List ℕ) : Type 0 where
+pub record ActionPre (m : ℕ) (L : Type 0) (x : List ℕ) : Type 0 where
   pub rank : m ≤ 6
-  pub letters : Word m word
-  pub size : length x ≡ factorial (suc m)
-
-pub record SignedLetterPre (m : ℕ) (z : ℤ) (x : List ℕ) : Type 0 where
-  pub rank : m ≤ 6
-  pub letter : SignedLetter m z
-  pub size : length x ≡ factorial (suc m)
-
-pub record SignedLettersPre (m : ℕ) (word : List ℤ) (x : List ℕ) : Type 0 where
-  pub rank : m ≤ 6
-  pub letters : SignedWord m word
+  pub letters : L
   pub size : length x ≡ factorial (suc m)

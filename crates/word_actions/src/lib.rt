@@ -2,39 +2,39 @@
 // words.
 //
 // An element of rank m is M = (m + 1)! words, its coefficients modulo 2^64. A call checks all it is given before it writes,
-// and a refusal counts 0 and leaves every lent word as it was.
+// and a refusal leaves every lent word as it was.
 
 #![tactic(auto)]
 
 ghost use Rattle.std.specs.Prelude.{◌≡◌, ℕ, suc, ◌*◌, ◌/◌, ◌≤◌};
 ghost use Rattle.lists.specs.Numbers.{factorial};
-ghost use Rattle.refusals.specs.Refusals.{accepted};
+ghost use Rattle.perms.specs.Permutation.{Word};
 ghost use Rattle.algebra.specs.Product.{act};
+ghost use Rattle.signed_words.specs.Words.{SignedLetter, SignedWord};
 ghost use Rattle.element_calls.specs.Coefficients.{ring};
 ghost use Rattle.element_calls.specs.Calls.{act_word_call, act_signed_word_call};
-ghost use Rattle.word_actions.specs.Steps.{signed_lettered, signed_acted, LettersPre, SignedLetterPre, SignedLettersPre};
+ghost use Rattle.word_actions.specs.Steps.{signed_lettered, signed_acted, ActionPre};
 
-use block_loops::Way;
+use block_loops::{Backward, Forward};
 use element_calls::Parameters;
 use element_checks::{checks, signed};
-use refusals::{Answer, Verdict, accepted, refused, then};
+use refusals::{Answer, Refusal};
 
 // The word's generators T_i act on the element of rank m, left to right: 3M/2 ring operations a letter.
 // Refused: 1 a rank above 6; 2 an element that is not M words; 4 a word of over 4,096 letters, or the first letter that is 0
 // or above m.
 // Example: of rank 1 with q = 3, the word 1 1 makes 3 2 of 1 0.
-pub fn act_word(m: usize, q: u64, word: &[u8], element: &mut [u64]) -> Answer
+#[tactic(auto, unfolding(element_calls::specs::Calls::act_word_call, refusals::specs::Refusals::ended))]
+pub fn act_word(m: usize, q: u64, word: &[u8], element: &mut [u64]) -> Result<Answer, Refusal>
     ensures { act_word_call m q word.now element.old ≡ record { answer = result; lent = element.new } }
 {
-    let checked = then(
-        then(checks::rank(m), checks::sized(m, element.len())),
-        checks::word(m, word),
-    );
-    if let Verdict::Refused(why) = checked {
-        return refused(why);
-    }
+    checks::rank(m)?;
+    checks::sized(m, element.len())?;
+    checks::word(m, word)?;
     act_letters(element, word, m, element_checks::parameters_of(q));
-    answer_of_letters(word.len(), m)
+    Ok(Answer {
+        count: count_of_letters(word.len(), m),
+    })
 }
 
 // The word's signed letters act on the element of rank m, left to right: i stands for T_i and -i for its inverse, q' T_i + (q' - 1)
@@ -42,57 +42,61 @@ pub fn act_word(m: usize, q: u64, word: &[u8], element: &mut [u64]) -> Answer
 // Refused: 1 a rank above 6; 2 an element that is not M words; 4 a word of over 4,096 letters, or the first letter that is 0
 // or outside -m to m; 15 the first letter below 0, if q is even and so has no inverse.
 // Example: of rank 1 with q = 3, the word 1 1 -1 makes 0 1 of 1 0.
-pub fn act_signed_word(m: usize, q: u64, word: &[i8], element: &mut [u64]) -> Answer
+#[tactic(auto, unfolding(element_calls::specs::Calls::act_signed_word_call, refusals::specs::Refusals::ended))]
+pub fn act_signed_word(
+    m: usize,
+    q: u64,
+    word: &[i8],
+    element: &mut [u64],
+) -> Result<Answer, Refusal>
     ensures { act_signed_word_call m q word.now element.old ≡ record { answer = result; lent = element.new } }
 {
-    let checked = signed::check(m, element.len(), q, word);
-    if let Verdict::Refused(why) = checked {
-        return refused(why);
-    }
+    signed::check(m, element.len(), q, word)?;
     let p = element_checks::parameters_of(q);
     let back = signed::inverse_parameters(q, word);
     act_signed_letters(element, word, m, p, back);
-    answer_of_letters(word.len(), m)
+    Ok(Answer {
+        count: count_of_letters(word.len(), m),
+    })
 }
 
-// The answer of the action of n letters on an element of rank m.
-fn answer_of_letters(n: usize, m: usize) -> Answer
+// The ring operations of the action of n letters on an element of rank m.
+fn count_of_letters(n: usize, m: usize) -> u64
     requires { (n ≤ 4096) × (m ≤ 6) }
-    ensures { result ≡ accepted (n * (3 * factorial (suc m) / 2)) }
+    ensures { result ≡ n * (3 * factorial (suc m) / 2) }
 {
-    accepted(n as u64 * (3 * ranks::size(m) as u64 / 2))
+    n as u64 * (3 * ranks::size(m) as u64 / 2)
 }
 
 // The letters act on x one by one.
 fn act_letters(x: &mut [u64], word: &[u8], m: usize, p: Parameters)
-    requires { LettersPre m word.now x.old }
+    requires { ActionPre m (Word m word.now) x.old }
     ensures { x.new ≡ act ℕ (ring p) p.q p.r m word.now x.old }
 {
-    for i in 0..word.len() {
-        letters::letter(x, m, word[i] as usize, Way::Forward, p);
+    for letter in word {
+        letters::letter::<Forward>(x, m, usize::from(*letter), p);
     }
 }
 
 // The letter z on x, of rank m: with p, or below 0 the inverse of its generator, with back.
 fn signed_letter(x: &mut [u64], z: i8, m: usize, p: Parameters, back: Parameters)
-    requires { SignedLetterPre m z x.old }
+    requires { ActionPre m (SignedLetter m z) x.old }
     ensures { x.new ≡ signed_lettered p back m z x.old }
 {
-    if z < 0 {
-        let j = signed::size_of(z);
-        letters::letter(x, m, j, Way::Backward, back);
-        return;
-    }
     let j = signed::size_of(z);
-    letters::letter(x, m, j, Way::Forward, p);
+    if z < 0 {
+        letters::letter::<Backward>(x, m, j, back);
+    } else {
+        letters::letter::<Forward>(x, m, j, p);
+    }
 }
 
-// The signed letters act on x one by one.
+// The signed letters act on x one by one. Apart from `act_letters`, whose letters have no sign to test.
 fn act_signed_letters(x: &mut [u64], word: &[i8], m: usize, p: Parameters, back: Parameters)
-    requires { SignedLettersPre m word.now x.old }
+    requires { ActionPre m (SignedWord m word.now) x.old }
     ensures { x.new ≡ signed_acted p back m word.now x.old }
 {
-    for i in 0..word.len() {
-        signed_letter(x, word[i], m, p, back);
+    for letter in word {
+        signed_letter(x, *letter, m, p, back);
     }
 }

@@ -3,16 +3,10 @@ use Rattle.std.proofs.Common.{◌≡◌, ℕ, ◌-◌, length, refl, sym, ◌∙
 use Rattle.ring.specs.Modular.{words}
 use Rattle.algebra.specs.Element.{scale}
 use Rattle.algebra.proofs.Lists.{plus_length, scale_length}
-use Rattle.word_lists.proofs.Loops.{from_none, from_more, from_all, plus_next, scale_next}
+use Rattle.word_lists.proofs.Loops.{from_more, from_all, plus_next, scale_next}
 use Rattle.element_calls.specs.Coefficients.{modulus}
-use Rattle.block_loops.proofs.Fits.{multiple_fits, multiple_not}
+use Rattle.block_loops.proofs.Fits.{multiple_fits}
 use Rattle.block_loops.proofs.add_multiple.Goals as goal
-
-pub returns-then-d-s : goal.returns-then-d-s
-returns-then-d-s c = let u = c.args in sym (multiple_not u.p u.d.now u.c u.s.now (λ e. omega arith))
-
-pub loop-i-init : goal.loop-i-init
-loop-i-init c = (omega arith, from_none _ _ _ (omega arith))
 
 pub loop-i-preserved : goal.loop-i-preserved
 loop-i-preserved c =

@@ -6,6 +6,3 @@ use Rattle.block_loops.proofs.add_multiple.Given as goal
 
 abbrev pub invariant-loop-i : goal.invariant-loop-i
 invariant-loop-i l = (l.i ≤ length l.s) × WrittenFrom (plus ℕ words l.fn.d (scale ℕ words l.c l.s)) l.fn.d l.d l.i
-
-abbrev pub decreases-loop-i : goal.decreases-loop-i
-decreases-loop-i l = l.i

@@ -1,19 +1,13 @@
 -- The sizes are compared; then the loop writes the words of the sum. Word i of d is still as it was when its multiple is made. Rests on Fits and word_lists' Loops.
 use Rattle.std.proofs.Common.{◌≡◌, ℕ, length, refl, sym, ◌∙◌, arith}
 use Rattle.ring.specs.Modular.{words}
-use Rattle.lists.proofs.Fill.{filled_none, filled_more}
+use Rattle.lists.proofs.Fill.{filled_more}
 use Rattle.algebra.specs.Element.{scale}
 use Rattle.algebra.proofs.Lists.{plus_length, scale_length}
 use Rattle.word_lists.proofs.Loops.{written_all, plus_next, scale_next}
 use Rattle.element_calls.specs.Coefficients.{modulus}
-use Rattle.block_loops.proofs.Fits.{fold_fits, fold_not}
+use Rattle.block_loops.proofs.Fits.{fold_fits}
 use Rattle.block_loops.proofs.fold_into.Goals as goal
-
-pub returns-then-d-s : goal.returns-then-d-s
-returns-then-d-s c = let u = c.args in sym (fold_not u.p u.d.now u.s.now (λ e. omega arith))
-
-pub loop-i-init : goal.loop-i-init
-loop-i-init c = (refl, filled_none _ _)
 
 pub loop-i-preserved : goal.loop-i-preserved
 loop-i-preserved c =

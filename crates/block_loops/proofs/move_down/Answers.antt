@@ -5,18 +5,9 @@ use Rattle.algebra.proofs.Lists.{scale_length}
 use Rattle.word_lists.proofs.Loops.{scale_next}
 use Rattle.element_calls.specs.Coefficients.{modulus}
 use Rattle.block_loops.proofs.Paired.{high_size}
-use Rattle.block_loops.proofs.Lowered.{lowered_none, lowered_more, lowered_high, lowered_all}
-use Rattle.block_loops.proofs.Fits.{move_fits, move_not}
+use Rattle.block_loops.proofs.Lowered.{lowered_more, lowered_high, lowered_all}
+use Rattle.block_loops.proofs.Fits.{move_fits}
 use Rattle.block_loops.proofs.move_down.Goals as goal
-
-pub returns-then-x-b : goal.returns-then-x-b
-returns-then-x-b c = let u = c.args in sym (move_not u.p u.b u.x.now (λ e. omega arith))
-
-pub returns-then-x-b-2 : goal.returns-then-x-b-2
-returns-then-x-b-2 c = let u = c.args in sym (move_not u.p u.b u.x.now (λ e. omega arith))
-
-pub loop-i-init : goal.loop-i-init
-loop-i-init c = (omega arith, lowered_none _ _ _ (omega arith))
 
 pub loop-i-preserved : goal.loop-i-preserved
 loop-i-preserved c =

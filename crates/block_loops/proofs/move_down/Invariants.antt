@@ -6,6 +6,3 @@ use Rattle.block_loops.proofs.move_down.Given as goal
 
 abbrev pub invariant-loop-i : goal.invariant-loop-i
 invariant-loop-i l = (l.i ≤ l.b) × Lowered l.b (scale ℕ words l.p.q (drop l.b l.fn.x)) l.fn.x l.x l.i
-
-abbrev pub decreases-loop-i : goal.decreases-loop-i
-decreases-loop-i l = l.i

@@ -22,41 +22,53 @@ done_of w p m j n x fits e d = done w p m j x fits (d ∙ ap (λ (n : ℕ). lett
 -- ---- the goals
 
 pub returns-then-not-letter_fits : goal.returns-then-not-letter_fits
-returns-then-not-letter_fits c = let u = c.args in
-    sym (letter_not u.way u.p u.m u.j u.x.now (sym c.letter_fits.ensures ∙ c.if-not-letter_fits.true))
+returns-then-not-letter_fits g c = let u = c.args in
+    sym (letter_not g.W.Direction.way u.p u.m u.j u.x.now (sym c.letter_fits.ensures ∙ c.if-not-letter_fits.true))
 
-pub letter_of_rank_four-requires : goal.letter_of_rank_four-requires
-letter_of_rank_four-requires c = let u = c.args in pre_of u.m u.j 4 u.x.now (sym c.letter_fits.ensures ∙ c.if-not-letter_fits.false) c.if-m-eq4.true
-
-pub returns-then-m-eq4 : goal.returns-then-m-eq4
-returns-then-m-eq4 c = let u = c.args in
-    done_of u.way u.p u.m u.j 4 u.x.now (sym c.letter_fits.ensures ∙ c.if-not-letter_fits.false) c.if-m-eq4.true c.letter_of_rank_four.ensures
-
-pub letter_of_rank_three-requires : goal.letter_of_rank_three-requires
-letter_of_rank_three-requires c = let u = c.args in pre_of u.m u.j 3 u.x.now (sym c.letter_fits.ensures ∙ c.if-not-letter_fits.false) c.if-m-eq3.true
-
-pub returns-then-m-eq3 : goal.returns-then-m-eq3
-returns-then-m-eq3 c = let u = c.args in
-    done_of u.way u.p u.m u.j 3 u.x.now (sym c.letter_fits.ensures ∙ c.if-not-letter_fits.false) c.if-m-eq3.true c.letter_of_rank_three.ensures
-
-pub letter_of_rank_two-requires : goal.letter_of_rank_two-requires
-letter_of_rank_two-requires c = let u = c.args in pre_of u.m u.j 2 u.x.now (sym c.letter_fits.ensures ∙ c.if-not-letter_fits.false) c.if-m-eq2.true
-
-pub returns-then-m-eq2 : goal.returns-then-m-eq2
-returns-then-m-eq2 c = let u = c.args in
-    done_of u.way u.p u.m u.j 2 u.x.now (sym c.letter_fits.ensures ∙ c.if-not-letter_fits.false) c.if-m-eq2.true c.letter_of_rank_two.ensures
-
-pub returns-then-m-eq1 : goal.returns-then-m-eq1
-returns-then-m-eq1 c =
+pub returns-in-1 : goal.returns-in-1
+returns-in-1 g c =
     let u = c.args in
     let fits = sym c.letter_fits.ensures ∙ c.if-not-letter_fits.false in
-    done u.way u.p u.m u.j u.x.now fits (exchanged_one u.way u.p c.if-m-eq1.true (fit_pre u.m u.j u.x.now fits) c.exchange.ensures)
+    done g.W.Direction.way u.p u.m u.j u.x.now fits (exchanged_one g.W.Direction.way u.p c.in-1.is (fit_pre u.m u.j u.x.now fits) c.exchange.ensures)
+
+pub letter-requires : goal.letter-requires
+letter-requires g c = let u = c.args in pre_of u.m u.j 2 u.x.now (sym c.letter_fits.ensures ∙ c.if-not-letter_fits.false) c.in-2.is
+
+pub returns-in-2 : goal.returns-in-2
+returns-in-2 g c = let u = c.args in
+    done_of g.W.Direction.way u.p u.m u.j 2 u.x.now (sym c.letter_fits.ensures ∙ c.if-not-letter_fits.false) c.in-2.is c.letter.ensures
 
 pub by_blocks-requires : goal.by_blocks-requires
-by_blocks-requires c =
-    let u = c.args in
-    let good = fit_pre u.m u.j u.x.now (sym c.letter_fits.ensures ∙ c.if-not-letter_fits.false) in
-    (omega (arith, good.letter.low, good.letter.high), good)
+by_blocks-requires g c = let u = c.args in pre_of u.m u.j 3 u.x.now (sym c.letter_fits.ensures ∙ c.if-not-letter_fits.false) c.in-3.is
 
-pub returns : goal.returns
-returns c = let u = c.args in done u.way u.p u.m u.j u.x.now (sym c.letter_fits.ensures ∙ c.if-not-letter_fits.false) c.by_blocks.ensures
+pub returns-in-3 : goal.returns-in-3
+returns-in-3 g c = let u = c.args in
+    done_of g.W.Direction.way u.p u.m u.j 3 u.x.now (sym c.letter_fits.ensures ∙ c.if-not-letter_fits.false) c.in-3.is c.by_blocks.ensures
+
+pub by_blocks-requires-in-4 : goal.by_blocks-requires-in-4
+by_blocks-requires-in-4 g c = let u = c.args in pre_of u.m u.j 4 u.x.now (sym c.letter_fits.ensures ∙ c.if-not-letter_fits.false) c.in-4.is
+
+pub returns-in-4 : goal.returns-in-4
+returns-in-4 g c = let u = c.args in
+    done_of g.W.Direction.way u.p u.m u.j 4 u.x.now (sym c.letter_fits.ensures ∙ c.if-not-letter_fits.false) c.in-4.is c.by_blocks-in-4.ensures
+
+pub by_blocks-requires-in-5 : goal.by_blocks-requires-in-5
+by_blocks-requires-in-5 g c = let u = c.args in pre_of u.m u.j 5 u.x.now (sym c.letter_fits.ensures ∙ c.if-not-letter_fits.false) c.in-5.is
+
+pub returns-in-5 : goal.returns-in-5
+returns-in-5 g c = let u = c.args in
+    done_of g.W.Direction.way u.p u.m u.j 5 u.x.now (sym c.letter_fits.ensures ∙ c.if-not-letter_fits.false) c.in-5.is c.by_blocks-in-5.ensures
+
+pub by_blocks-requires-in_default : goal.by_blocks-requires-in_default
+by_blocks-requires-in_default g c =
+    let u = c.args in
+    let fits = sym c.letter_fits.ensures ∙ c.if-not-letter_fits.false in
+    let good = fit_pre u.m u.j u.x.now fits in
+    pre_of u.m u.j 6 u.x.now fits (omega (arith, good.rank, good.letter.low, good.letter.high))
+
+pub returns-in_default : goal.returns-in_default
+returns-in_default g c =
+    let u = c.args in
+    let fits = sym c.letter_fits.ensures ∙ c.if-not-letter_fits.false in
+    let good = fit_pre u.m u.j u.x.now fits in
+    done_of g.W.Direction.way u.p u.m u.j 6 u.x.now fits (omega (arith, good.rank, good.letter.low, good.letter.high)) c.by_blocks-in_default.ensures

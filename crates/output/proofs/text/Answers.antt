@@ -1,15 +1,15 @@
--- The text of what stands at the cursor, unless the buffer is short or the registers are of another size.
-use Rattle.std.proofs.Common.{◌≡◌, ◌≤◌, List, ℕ, length, sym, ap, ◌∙◌, arith}
+-- The text of what stands at the cursor, unless the buffer is short or the registers are of another size. Rests on operands' InRange.
+use Rattle.std.proofs.Common.{◌≡◌, ◌≤◌, true, false, List, ℕ, length, refl, sym, ap, ◌∙◌, arith, rules}
 use Rattle.lists.proofs.Test.{same_yes, same_no, less_yes, less_no}
-use Rattle.sheet_format.specs.declared.Decoded.{Decoded}
 use Rattle.sheet_format.specs.declared.Header.{Header}
-use Rattle.sheet_format.specs.Format.{decode}
+use Rattle.sheet_format.specs.Format.{Decoded, decode}
+use Rattle.operands.specs.Operands.{in_range}
+use Rattle.operands.proofs.InRange.{low}
 use Rattle.runner.specs.declared.Cursor.{Cursor}
 use Rattle.runner.specs.Turn.{state}
 use Rattle.output.specs.Text.{text_room}
-use Rattle.output.specs.Printed.{front, text_of, text_call}
-use Rattle.output.proofs.Overwritten.{overwritten_none}
-use Rattle.output.proofs.Front.{front_written}
+use Rattle.output.specs.Printed.{front, text_of, in_range_text, text_call}
+use Rattle.output.proofs.Front.{front_none, front_put, lent_back}
 use Rattle.output.proofs.text.Goals as goal
 
 -- d stands at the cursor
@@ -22,31 +22,30 @@ stands s x buffer h k room four e =
 
 pub returns-then-buffer-lt-ROOM : goal.returns-then-buffer-lt-ROOM
 unfolding text_call
-returns-then-buffer-lt-ROOM c =
-    rw (less_yes {x = length c.args.buffer.now} {a = text_room} (omega arith)) (front_written (overwritten_none 0 _))
+returns-then-buffer-lt-ROOM c = rw (less_yes {x = length c.args.buffer.now} {a = text_room} (omega arith)) (front_none _)
 
 pub returns-then-x-ne2880 : goal.returns-then-x-ne2880
 unfolding text_call
 returns-then-x-ne2880 c =
     rw (less_no {x = length c.args.buffer.now} {a = text_room} (omega arith), same_no {x = length c.args.x.now} {a = 2880} (omega arith))
-    (front_written (overwritten_none 0 _))
+    (front_none _)
 
-pub returns-in-Found : goal.returns-in-Found
-returns-in-Found c =
-    stands _ _ _ c.args.header c.args.cursor (omega arith) (omega arith) (sym c.read-found.ensures ∙ c.in-Found.is)
-    ∙ front_written c.put_found.ensures
+pub returns-in_default : goal.returns-in_default
+returns-in_default c = stands _ _ _ c.args.header c.args.cursor (omega arith) (omega arith) (sym c.read.ensures ∙ c.in_default.is) ∙ front_none _
 
-pub returns-in-NoCommand : goal.returns-in-NoCommand
-returns-in-NoCommand c =
-    stands _ _ _ c.args.header c.args.cursor (omega arith) (omega arith) (sym c.read-found.ensures ∙ c.in-NoCommand.is)
-    ∙ front_written (overwritten_none 0 _)
+pub returns-then-not-in_range : goal.returns-then-not-in_range
+unfolding in_range_text
+returns-then-not-in_range c =
+    let out : in_range c.args.header.rank _ ≡ false = sym c.in_range.ensures ∙ c.if-not-in_range.true in
+    stands _ _ _ c.args.header c.args.cursor (omega arith) (omega arith) (sym c.in-Ok.ensures) ∙ rw out (front_none _)
 
-pub returns-in-Short : goal.returns-in-Short
-returns-in-Short c =
-    stands _ _ _ c.args.header c.args.cursor (omega arith) (omega arith) (sym c.read-found.ensures ∙ c.in-Short.is)
-    ∙ front_written (overwritten_none 0 _)
+pub invariant_of-put_text-clause-low : goal.invariant_of-put_text-clause-low
+invariant_of-put_text-clause-low c =
+    low c.args.header.rank _ (sym c.in_range.ensures ∙ c.if-not-in_range.false)
 
-pub returns-in-Nothing : goal.returns-in-Nothing
-returns-in-Nothing c =
-    stands _ _ _ c.args.header c.args.cursor (omega arith) (omega arith) (sym c.read-found.ensures ∙ c.in-Nothing.is)
-    ∙ front_written (overwritten_none 0 _)
+pub returns : goal.returns
+unfolding in_range_text
+returns c =
+    let r : in_range c.args.header.rank _ ≡ true = sym c.in_range.ensures ∙ c.if-not-in_range.false in
+    stands _ _ _ c.args.header c.args.cursor (omega arith) (omega arith) (sym c.in-Ok.ensures)
+    ∙ rw r (lent_back (front_put refl c.put_text.ensures) (search rules))

@@ -1,14 +1,11 @@
 -- Rests on Reading.
-use Rattle.std.proofs.Common.{◌-◌, arith}
-use Rattle.program.proofs.Reading.{first_printed}
+use Rattle.program.proofs.Reading.{first_printed, failed}
 use Rattle.program.proofs.run.Goals as goal
 
-pub returns-then-handed : goal.returns-then-handed
-returns-then-handed g c =
-    first_printed _ c.read-sheet.new.buffer c.in-Bytes.n (c.in-Bytes.n - 0) c.read-sheet.auto.buffer (omega arith) c.in-Bytes.ensures.bytes
-    c.run-handed.ensures.bytes c.if-handed.true
+pub returns-in_err-run : goal.returns-in_err-run
+returns-in_err-run g c =
+    let e = c.from_residual.ensures in
+    failed _ _ c.in-Ok.n _ c.read.auto.buffer e.0 e.1 c.in-Ok.ensures.bytes c.in_err-run.ensures.bytes
 
-pub returns-else-handed : goal.returns-else-handed
-returns-else-handed g c =
-    first_printed _ c.read-sheet.new.buffer c.in-Bytes.n (c.in-Bytes.n - 0) c.read-sheet.auto.buffer (omega arith) c.in-Bytes.ensures.bytes
-    c.run-handed.ensures.bytes c.if-handed.false
+pub returns : goal.returns
+returns g c = first_printed _ c.read.new.buffer c.in-Ok.n c.read.auto.buffer c.in-Ok.ensures.bytes c.in_ok-run.ensures.bytes

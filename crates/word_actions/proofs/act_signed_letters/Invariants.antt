@@ -2,5 +2,5 @@
 use Rattle.word_actions.proofs.SignedAction.{SignedActing}
 use Rattle.word_actions.proofs.act_signed_letters.Given as goal
 
-abbrev pub invariant-loop-i : goal.invariant-loop-i
-invariant-loop-i l = SignedActing l.p l.back l.m l.word l.initial.x l.x l.i
+abbrev pub invariant-loop-letter : goal.invariant-loop-letter
+invariant-loop-letter l = SignedActing l.p l.back l.m l.word l.initial.x l.x l.letter-index

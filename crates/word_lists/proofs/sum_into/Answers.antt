@@ -1,27 +1,11 @@
--- The sizes are compared; then the loop writes the words of the sum. Rests on Loops and Into.
+-- The loop writes the words of the sum. Rests on Loops and Into.
 use Rattle.std.proofs.Common.{◌≡◌, ℕ, length, refl, sym, ◌∙◌, arith}
-use mathlib.Core.Bool.{and-false}
 use Rattle.ring.specs.Modular.{words}
-use Rattle.lists.proofs.Test.{same_no}
-use Rattle.lists.proofs.Fill.{filled_none, filled_more}
+use Rattle.lists.proofs.Fill.{filled_more}
 use Rattle.algebra.proofs.Lists.{plus_length}
-use Rattle.word_lists.specs.Into.{sum_into}
 use Rattle.word_lists.proofs.Loops.{written_all, plus_next}
 use Rattle.word_lists.proofs.Into.{sum_into_lem}
 use Rattle.word_lists.proofs.sum_into.Goals as goal
-
-pub returns-then-d-h : goal.returns-then-d-h
-unfolding sum_into
-returns-then-d-h c = let u = c.args in
-    rw (same_no {x = length u.d.now} {a = length u.h.now} (λ e. omega arith)) refl
-
-pub returns-then-h-g : goal.returns-then-h-g
-unfolding sum_into
-returns-then-h-g c = let u = c.args in
-    rw (same_no {x = length u.h.now} {a = length u.g.now} (λ e. omega arith), and-false) refl
-
-pub loop-i-init : goal.loop-i-init
-loop-i-init c = (refl, filled_none _ _)
 
 pub loop-i-preserved : goal.loop-i-preserved
 loop-i-preserved c = let u = c.args in

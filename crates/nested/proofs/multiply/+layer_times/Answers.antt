@@ -8,15 +8,15 @@ use Rattle.ranks.proofs.Sizes.{size_is}
 use Rattle.nested.specs.Steps.{TimesPre, LayerPre}
 use Rattle.nested.proofs.Layers.{layer_whole}
 use Rattle.nested.proofs.LowFactors.{size_one, multiplied_zero}
-use Rattle.nested.proofs.SumCalls.{layer_pre, sum_fits, finish_pre}
+use Rattle.nested.proofs.SumCalls.{layer_pre, sum_fits}
 use Rattle.nested.proofs.Summands.{summing_first, summing_more, times_whole}
 use Rattle.nested.proofs.multiply.+layer_times.Goals as goal
 
 -- ---- layer
 
-pub layer-returns : goal.layer-returns
-layer-returns t c =
-    layer_whole c.requires c.times.new.scratch c.times.auto.scratch c.args.p c.act.new.work c.times.auto.res c.times.ensures c.act.ensures
+pub Parts::layer-returns : goal.Parts::layer-returns
+Parts::layer-returns t c =
+    layer_whole c.requires c.times.new.scratch c.times.auto.scratch c.args.self.p c.act.new.work c.times.auto.res c.times.ensures c.act.ensures
 
 -- ---- times: a right factor of rank 0
 
@@ -45,68 +45,65 @@ module _ {m l s n : ℕ} {result₀ scratch₀ h g : List ℕ} (c : TimesPre m l
     next_pre : (k : ℕ) → k ≤ l → LayerPre m (l - 1) k s n result scratch h g
     next_pre = layer_pre c element_size block_size some result scratch er ew
 
-    end_pre : length result ≤ length scratch
-    end_pre = finish_pre c element_size block_size some result scratch er ew
-
 -- ---- times: the first layer
 
 pub times-layer-requires : goal.times-layer-requires
 times-layer-requires t c = let u = c.args in
-    (omega arith, next_pre c.requires c.size-size.ensures c.size-part.ensures (omega arith) u.res.now u.scratch.now refl refl u.l (omega arith))
+    (omega arith, next_pre c.requires c.size.ensures c.size-2.ensures (omega arith) u.res.now u.scratch.now refl refl u.l (omega arith))
 
 pub times-slice_bounds-load-end : goal.times-slice_bounds-load-end
 times-slice_bounds-load-end t c =
-    fits c.requires c.size-size.ensures c.size-part.ensures (omega arith) c.layer.new.res c.layer.new.scratch c.layer.auto.res c.layer.auto.scratch
+    fits c.requires c.size.ensures c.size-2.ensures (omega arith) c.layer.new.res c.layer.new.scratch c.layer.auto.res c.layer.auto.scratch
 
-pub times-loop-i-init : goal.times-loop-i-init
-times-loop-i-init t c =
+pub times-loop-k-init : goal.times-loop-k-init
+times-loop-k-init t c =
     let some : 1 ≤ c.args.l = omega arith in
     let y = c.layer in
     summing_first y.ensures some
-    (result_size c.requires c.size-size.ensures c.size-part.ensures some y.new.res y.new.scratch y.auto.res y.auto.scratch)
-    (fits c.requires c.size-size.ensures c.size-part.ensures some y.new.res y.new.scratch y.auto.res y.auto.scratch)
-    c.load.auto.d c.load.ensures
+    (result_size c.requires c.size.ensures c.size-2.ensures some y.new.res y.new.scratch y.auto.res y.auto.scratch)
+    (fits c.requires c.size.ensures c.size-2.ensures some y.new.res y.new.scratch y.auto.res y.auto.scratch)
+    c.load.auto.d c.load.ensures (omega arith)
 
 -- ---- times: the loop
 
-pub times-layer-requires-in-loop-i : goal.times-layer-requires-in-loop-i
-times-layer-requires-in-loop-i t c =
-    let same_scratch = same_len_mid 0 (c.size-size.result - 0) c.layer.new.scratch c.load.new.d c.load.auto.d in (
+pub times-layer-requires-in-loop-k : goal.times-layer-requires-in-loop-k
+times-layer-requires-in-loop-k t c =
+    let same_scratch = same_len_mid 0 (c.size.result - 0) c.layer.new.scratch c.load.new.d c.load.auto.d in (
       omega arith,
-      next_pre c.requires c.size-size.ensures c.size-part.ensures (omega arith) c.loop-i.res c.loop-i.scratch
-          (c.loop-i.auto.res ∙ c.layer.auto.res) (c.loop-i.auto.scratch ∙ same_scratch ∙ c.layer.auto.scratch) _ (omega arith),
+      next_pre c.requires c.size.ensures c.size-2.ensures (omega arith) c.loop-k.res c.loop-k.scratch
+          (c.loop-k.auto.res ∙ c.layer.auto.res) (c.loop-k.auto.scratch ∙ same_scratch ∙ c.layer.auto.scratch) _ (omega arith),
     )
 
-pub times-loop-i-preserved : goal.times-loop-i-preserved
-times-loop-i-preserved t c =
-    let y = c.layer-in-loop-i in
+pub times-loop-k-preserved : goal.times-loop-k-preserved
+times-loop-k-preserved t c =
+    let y = c.layer-in-loop-k in
     let some : 1 ≤ c.args.l = omega arith in
-    let same : length c.loop-i.res ≡ length c.args.res.now = c.loop-i.auto.res ∙ c.layer.auto.res in
-    let same_scratch : length c.loop-i.scratch ≡ length c.args.scratch.now =
-    c.loop-i.auto.scratch ∙ same_len_mid 0 (c.size-size.result - 0) c.layer.new.scratch c.load.new.d c.load.auto.d ∙ c.layer.auto.scratch in
-    summing_more c.loop-i.invariant refl
-    (result_size c.requires c.size-size.ensures c.size-part.ensures some c.loop-i.res c.loop-i.scratch same same_scratch)
+    let same : length c.loop-k.res ≡ length c.args.res.now = c.loop-k.auto.res ∙ c.layer.auto.res in
+    let same_scratch : length c.loop-k.scratch ≡ length c.args.scratch.now =
+    c.loop-k.auto.scratch ∙ same_len_mid 0 (c.size.result - 0) c.layer.new.scratch c.load.new.d c.load.auto.d ∙ c.layer.auto.scratch in
+    summing_more c.loop-k.invariant (omega arith)
+    (result_size c.requires c.size.ensures c.size-2.ensures some c.loop-k.res c.loop-k.scratch same same_scratch)
     y.auto.res y.ensures (omega arith) y.auto.scratch
-    (fits c.requires c.size-size.ensures c.size-part.ensures some y.new.res y.new.scratch (y.auto.res ∙ same) (y.auto.scratch ∙ same_scratch))
-    c.add_to.auto.d c.add_to.ensures
+    (fits c.requires c.size.ensures c.size-2.ensures some y.new.res y.new.scratch (y.auto.res ∙ same) (y.auto.scratch ∙ same_scratch))
+    c.add_to.auto.d c.add_to.ensures (omega arith)
 
 -- ---- times: the last layer
 
 pub times-layer-requires-2 : goal.times-layer-requires-2
 times-layer-requires-2 t c =
-    let same_scratch = same_len_mid 0 (c.size-size.result - 0) c.layer.new.scratch c.load.new.d c.load.auto.d in (
+    let same_scratch = same_len_mid 0 (c.size.result - 0) c.layer.new.scratch c.load.new.d c.load.auto.d in (
       omega arith,
-      next_pre c.requires c.size-size.ensures c.size-part.ensures (omega arith) c.loop-i.res c.loop-i.scratch
-          (c.loop-i.auto.res ∙ c.layer.auto.res) (c.loop-i.auto.scratch ∙ same_scratch ∙ c.layer.auto.scratch) _ (omega arith),
+      next_pre c.requires c.size.ensures c.size-2.ensures (omega arith) c.loop-k.res c.loop-k.scratch
+          (c.loop-k.auto.res ∙ c.layer.auto.res) (c.loop-k.auto.scratch ∙ same_scratch ∙ c.layer.auto.scratch) _ (omega arith),
     )
 
 pub times-returns : goal.times-returns
 times-returns t c =
     let some : 1 ≤ c.args.l = omega arith in
-    let same_scratch : length c.loop-i.scratch ≡ length c.args.scratch.now =
-    c.loop-i.auto.scratch ∙ same_len_mid 0 (c.size-size.result - 0) c.layer.new.scratch c.load.new.d c.load.auto.d ∙ c.layer.auto.scratch in
-    let size_now = result_size c.requires c.size-size.ensures c.size-part.ensures some c.loop-i.res c.loop-i.scratch
-    (c.loop-i.auto.res ∙ c.layer.auto.res) same_scratch in
-    let all : c.loop-i.i ≡ c.args.l = omega (arith, c.loop-i.invariant.within) in
-    times_whole c.loop-i.invariant (omega (arith, all)) size_now c.layer-2.auto.res c.layer-2.ensures all
-    (block_size c.requires c.size-size.ensures c.size-part.ensures) c.finish.ensures
+    let same_scratch : length c.loop-k.scratch ≡ length c.args.scratch.now =
+    c.loop-k.auto.scratch ∙ same_len_mid 0 (c.size.result - 0) c.layer.new.scratch c.load.new.d c.load.auto.d ∙ c.layer.auto.scratch in
+    let size_now = result_size c.requires c.size.ensures c.size-2.ensures some c.loop-k.res c.loop-k.scratch
+    (c.loop-k.auto.res ∙ c.layer.auto.res) same_scratch in
+    let all : suc c.args.l - c.loop-k.k ≡ c.args.l = omega (arith, c.loop-k.invariant.within) in
+    times_whole c.loop-k.invariant (omega (arith, all)) size_now c.layer-2.auto.res c.layer-2.ensures all
+    (block_size c.requires c.size.ensures c.size-2.ensures) c.finish.ensures

@@ -23,13 +23,14 @@ returns-then-m-eq1 t c =
 -- ---- the loop
 
 pub loop-c-init : goal.loop-c-init
-loop-c-init t c = summed_none _ _ c.requires c.size-size.ensures (omega arith) c.type_inv.a c.type_inv.b
+loop-c-init t c =
+    rw (c.copy_from_slice.ensures.after) (summed_none _ _ c.told-weights c.requires c.size-size.ensures (omega arith) c.type_inv.a c.type_inv.b)
 
 pub overflow_mul-at : goal.overflow_mul-at
 overflow_mul-at t c = record { fits = omega (arith, block_fits c.requires c.size-size.ensures c.loop-c.c (omega arith)) }
 
-pub overflow_add-end : goal.overflow_add-end
-overflow_add-end t c = record { fits = omega (arith, block_fits c.requires c.size-size.ensures c.loop-c.c (omega arith)) }
+pub overflow_add-at : goal.overflow_add-at
+overflow_add-at t c = record { fits = omega (arith, block_fits c.requires c.size-size.ensures c.loop-c.c (omega arith)) }
 
 pub offset_bounds-a-at : goal.offset_bounds-a-at
 offset_bounds-a-at t c = record { fits = omega (arith, block_fits c.requires c.size-size.ensures c.loop-c.c (omega arith)) }

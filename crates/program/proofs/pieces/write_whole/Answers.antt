@@ -1,10 +1,6 @@
 -- Rests on Written.
-use Rattle.std.proofs.Common.{arith}
-use Rattle.program.proofs.Written.{grown_none, grown_lent}
+use Rattle.program.proofs.Written.{grown_lent}
 use Rattle.program.proofs.pieces.write_whole.Goals as goal
-
-pub loop-done-init : goal.loop-done-init
-loop-done-init g c = (omega arith, grown_none)
 
 pub loop-done-preserved : goal.loop-done-preserved
 loop-done-preserved g c =

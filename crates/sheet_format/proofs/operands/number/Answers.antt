@@ -1,5 +1,5 @@
 use Rattle.std.proofs.Common.{◌-◌, arith}
-use Rattle.sheet_format.proofs.Numbers.{read_none, read_more, read_all, read_fits}
+use Rattle.sheet_format.proofs.Numbers.{read_none, read_more, read_fits}
 use Rattle.sheet_format.proofs.operands.number.Goals as goal
 
 pub loop-k-init : goal.loop-k-init
@@ -14,6 +14,3 @@ overflow_add-value c = omega (arith, read_fits c.args.x.now (λ i. (c.type_inv.x
 pub loop-k-preserved : goal.loop-k-preserved
 loop-k-preserved c =
     read_more c.args.x.now c.args.i c.args.n (c.loop-k.k - 1) _ c.loop-k.invariant (omega arith) (omega arith)
-
-pub returns : goal.returns
-returns c = read_all c.args.x.now c.args.i c.args.n c.loop-k.invariant (omega arith)

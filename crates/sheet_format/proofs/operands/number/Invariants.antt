@@ -4,6 +4,3 @@ use Rattle.sheet_format.proofs.operands.number.Given as goal
 
 abbrev pub invariant-loop-k : goal.invariant-loop-k
 invariant-loop-k l = ReadTo l.x l.i l.n l.value l.k
-
-abbrev pub decreases-loop-k : goal.decreases-loop-k
-decreases-loop-k l = l.k

@@ -1,15 +1,9 @@
 -- The loop stores the letters of a(j, k) one by one.
-use Rattle.std.proofs.Common.{length, refl, sym, arith}
-use Rattle.lists.proofs.Fill.{filled_none, filled_more, filled_all}
+use Rattle.std.proofs.Common.{length, sym, arith}
+use Rattle.lists.proofs.Fill.{filled_all}
 use Rattle.perms.specs.Tower.{cycle}
 use Rattle.perms.proofs.Word.{length_cycle, get_or_cycle}
 use Rattle.tower_words.proofs.entry_loops.fill_cycle.Goals as goal
-
-pub loop-i-init : goal.loop-i-init
-loop-i-init c = filled_none _ _
-
-pub loop-i-preserved : goal.loop-i-preserved
-loop-i-preserved c = filled_more _ c.loop-i.invariant (omega arith) refl
 
 pub returns : goal.returns
 returns c =

@@ -3,5 +3,5 @@ use Rattle.lists.proofs.Fill.{Filled}
 use Rattle.perms.specs.Permutation.{image}
 use Rattle.towers.proofs.image_lists.compose.Given as goal
 
-abbrev pub invariant-loop-i : goal.invariant-loop-i
-invariant-loop-i l = Filled (λ k. image l.next (get_or l.initial.images k 0)) l.initial.images l.images l.i
+abbrev pub invariant-loop-x : goal.invariant-loop-x
+invariant-loop-x l = Filled (λ k. image l.next (get_or l.initial.images k 0)) l.initial.images l.images l.x-index

@@ -1,6 +1,6 @@
 -- The loop extends the image list by one value for each entry.
 use Rattle.std.proofs.Common.{arith}
-use Rattle.towers.proofs.Grow.{grown_none, grown_small, grown_more, grown_all}
+use Rattle.towers.proofs.Grow.{grown_none, grown_small, grown_more}
 use Rattle.towers.proofs.image_lists.fill_images.Goals as goal
 
 pub loop-i-init : goal.loop-i-init
@@ -13,6 +13,3 @@ extend_at-requires c =
 
 pub loop-i-preserved : goal.loop-i-preserved
 loop-i-preserved c = grown_more _ _ _ c.loop-i.i c.requires.2 (omega arith) c.loop-i.invariant c.extend_at.ensures
-
-pub returns : goal.returns
-returns c = grown_all _ _ c.loop-i.i (omega arith) c.loop-i.invariant

@@ -1,7 +1,0 @@
--- The call, and what is told of its answer. Rests on Ends.
-use Rattle.std.proofs.Common.{rules}
-use Rattle.hecke_c.proofs.Ends.{valued_call_lem}
-use Rattle.hecke_c.proofs.hecke_trace.Goals as goal
-
-pub returns : goal.returns
-returns c = search (valued_call_lem, rules)
