@@ -3,6 +3,7 @@
 #![tactic(auto)]
 
 ghost use Rattle.std.specs.Prelude.{◌≡◌, ℕ, ◌^◌, ◌<◌, length, drop, IfSome};
+ghost use Rattle.std.specs.Io.KnownBytes.{Consumes};
 ghost use Rattle.vector_io.specs.Numbers.{number, Below};
 
 use std::io;
@@ -30,12 +31,13 @@ pub fn read_number(input: &mut impl io::Read, size: usize) -> Option<u64>
 
 // The next bytes, as many as the size says, which are put at the front of the space.
 // Example: of the bytes 2 1 3, with size 2, they are 2 1.
-pub fn read_front<'a>(
-    input: &mut impl io::Read,
+pub fn read_front<'a, R: io::Read>(
+    input: &mut R,
     size: usize,
     space: &'a mut [u8],
 ) -> Option<&'a [u8]>
-    ensures { IfSome result (λ bytes. length bytes.now ≡ size) }
+    ensures size { IfSome result (λ bytes. length bytes.now ≡ size) }
+    ensures bytes { IfSome result (λ bytes. Consumes (R.remaining input.old) (R.remaining input.new) bytes.now) }
 {
     let bytes = space.get_mut(..size)?;
     input.read_exact(bytes).ok()?;
