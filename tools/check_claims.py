@@ -31,10 +31,9 @@ PAGE = 'docs/CLAIMS.md'
 
 # no contract can speak of what a program reads and prints
 WITHOUT_CONTRACT = {'vector_io::print_field', 'program::run_input'}
-# the contract says by itself what the fields of the reader are, that a list is zero, how many bytes are read, or that a number is a letter
-# without its sign
+# the contract says by itself what the fields of the reader are, that a list is zero, or that a number is a letter without its sign
 WITHOUT_DEFINITION = WITHOUT_CONTRACT | {'sheet_format::new', 'sheet_format::moved', 'word_lists::clear',
-                                         'vector_io::read_front', 'element_checks::signed::size_of'}
+                                         'element_checks::signed::size_of'}
 # where there is no contract, no answer is wrong
 UNTRIED = WITHOUT_CONTRACT
 EXEMPT = {'a contract': WITHOUT_CONTRACT, 'a definition': WITHOUT_DEFINITION, 'two wrong answers': UNTRIED}

@@ -1,5 +1,5 @@
 """The walk over an image list reads each image once: the code goes over the list in one place, the loop of the walk, hands the list on to
-one walk, and else asks for its length."""
+one walk, and else asks for its length; and the walk reads the image that the loop gives in one place."""
 import re
 import unittest
 from pathlib import Path
@@ -21,3 +21,4 @@ class Reads(unittest.TestCase):
         self.assertEqual(handed, ['images.iter().enumerate()', 'walk(images, ', 'vet(images, '])
         loop = re.search(r'fn walk\(.*?    for \(i, x\) in images\.iter\(\)\.enumerate\(\) \{\n(.*?)\n    \}\n', text, re.DOTALL).group(1)
         self.assertNotRegex(loop, r'images(?!\.len\(\))')
+        self.assertEqual(len(re.findall(r'\bx\b', loop)), 1, 'the image that the loop gives is read once')

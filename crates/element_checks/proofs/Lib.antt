@@ -1,4 +1,5 @@
 -- letters
+pub mod LetterTests
 pub mod Positions
 mod WordVerdicts
 -- words of signed letters

@@ -22,13 +22,12 @@ use std::io;
 use vector_io::{print_field, read_front, read_number};
 
 // What is read and lent stands in these; each word of the result and the scratch is 170 before the call.
-#[derive(Drop)]
-struct Space {
-    left: [u64; 5041],
-    right: [u64; 5041],
-    word: [u8; 4097],
-    res: [u64; 5041],
-    scratch: [u64; 60500],
+struct Space<'a> {
+    left: &'a mut [u64; 5041],
+    right: &'a mut [u64; 5041],
+    word: &'a mut [u8; 4097],
+    res: &'a mut [u64; 5041],
+    scratch: &'a mut [u64; 60500],
 }
 
 // A call with all that it is given and lent.
@@ -64,8 +63,8 @@ fn read_letters<'a>(input: &mut impl io::Read, space: &'a mut [u8]) -> Option<&'
     read_front(input, size as usize, space)
 }
 
-// The next call, if it is all there.
-fn read_call<'a>(input: &mut impl io::Read, space: &'a mut Space) -> Option<Call<'a>> {
+// The rest of a call, if it is all there.
+fn read_call<'a>(input: &mut impl io::Read, kind: u64, space: Space<'a>) -> Option<Call<'a>> {
     let Space {
         left,
         right,
@@ -74,7 +73,7 @@ fn read_call<'a>(input: &mut impl io::Read, space: &'a mut Space) -> Option<Call
         scratch,
     } = space;
     Some(Call {
-        kind: read_number(input, 1)?,
+        kind,
         m: read_number(input, 1)? as usize,
         q: read_number(input, 8)?,
         left: read_words(input, left)?,
@@ -182,14 +181,22 @@ fn run(rt: &impl Print, call: Call) -> io::Result<()> {
 fn main(rt: HostRuntime) -> io::Result<()> {
     let mut input = rt.stdin();
     for _ in 0..65536 {
-        let mut space = Space {
-            left: [0; 5041],
-            right: [0; 5041],
-            word: [0; 4097],
-            res: [170; 5041],
-            scratch: [170; 60500],
+        let Some(kind) = read_number(&mut input, 1) else {
+            break;
         };
-        let Some(call) = read_call(&mut input, &mut space) else {
+        let mut left = [0; 5041];
+        let mut right = [0; 5041];
+        let mut word = [0; 4097];
+        let mut res = [170; 5041];
+        let mut scratch = [170; 60500];
+        let space = Space {
+            left: &mut left,
+            right: &mut right,
+            word: &mut word,
+            res: &mut res,
+            scratch: &mut scratch,
+        };
+        let Some(call) = read_call(&mut input, kind, space) else {
             break;
         };
         run(&rt, call)?;

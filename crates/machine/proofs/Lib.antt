@@ -4,3 +4,4 @@ mod Taken
 mod InverseTaken
 mod NegatedLetter
 pub mod Counted
+pub mod Unsized

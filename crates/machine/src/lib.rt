@@ -97,6 +97,7 @@ fn obey(x: &mut Registers, header: Header, command: Command)
 // One command, in a sheet that begins with the header, on registers of 4 x 720 words: the count of its ring operations. A show
 // changes nothing.
 // Example: of rank 1, the unit into register 0 makes the first two words 1 0.
+#[tactic(auto, using(crate::proofs::Unsized::step_unsized))]
 pub fn step(x: &mut [u64], header: Header, command: Command) -> Result<u64, NotObeyed>
     ensures { step_call header command x.old ≡ record { answer = result; lent = x.new } }
 {

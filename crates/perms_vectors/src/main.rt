@@ -23,9 +23,10 @@ enum Kind {
     Length,
     StandardWord,
     Descents,
+    // Any other byte: it answers the descents too, and is lent a buffer as the others are.
+    Other,
 }
 
-// Any other byte is the last call.
 impl From<u8> for Kind {
     fn from(byte: u8) -> Kind {
         match byte {
@@ -35,7 +36,8 @@ impl From<u8> for Kind {
             4 => Kind::Product,
             5 => Kind::Length,
             6 => Kind::StandardWord,
-            _ => Kind::Descents,
+            7 => Kind::Descents,
+            _ => Kind::Other,
         }
     }
 }
@@ -104,7 +106,7 @@ fn run(call: Call, buffer: &mut [u8]) -> Result<[Option<u64>; 2], Refusal> {
             Some(tower_words::standard_word(call.first, buffer)? as u64),
             None,
         ]),
-        Kind::Descents => {
+        Kind::Descents | Kind::Other => {
             let set = tower_words::descents(call.first)?;
             return Ok([Some(set.mask), Some(u64::from(set.count))]);
         }

@@ -43,6 +43,11 @@ first_printed None b n size p f = tt
 first_printed (Some x) {old = old} {new = new} b n {w = w} size p f =
     subst (λ q. WritesFront old new (printed q) w) (p ∙ ap (λ n. take n x) size) f
 
+-- where a write failed, a front of it
+pub unwritten : (known : Option (List ℕ)) {old new : Option (List ℕ)} (b : List ℕ) (n : ℕ) {w : Bool} → length b ≡ 4097 → w ≡ false
+    → IfSome known (λ x. take n b ≡ take (length b) x) → WritesFront old new (printed (take n b)) w → Runs known old new (Err Unwritten)
+unwritten known {old = old} {new = new} b n size e p f = first_printed known b n size p (subst (λ v. WritesFront old new (printed (take n b)) v) e f)
+
 -- r is what is answered where a write failed
 pub failed : (known : Option (List ℕ)) {old new : Option (List ℕ)} (b : List ℕ) (n : ℕ) (r : Result (Unit {0}) Failure) → length b ≡ 4097 → IsErr r
     → IsErrAnd r (λ e. e ≡ Unwritten) → IfSome known (λ x. take n b ≡ take (length b) x) → WritesFront old new (printed (take n b)) false

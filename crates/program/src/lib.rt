@@ -37,6 +37,7 @@ impl fmt::Display for Failure {
 }
 
 // Runs the sheet in an input, the first 4,097 bytes of it or all, and writes what it prints. It is Ok where all of that is written.
+#[tactic(auto, using(crate::proofs::Reading::failed, crate::proofs::Reading::unwritten))]
 pub fn run<R: io::Read, W: io::Write>(input: &mut R, out: &mut W) -> Result<(), Failure>
     ensures { Runs (R.remaining input.old) (W.contents out.old) (W.contents out.new) result }
 {

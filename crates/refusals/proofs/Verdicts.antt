@@ -1,7 +1,7 @@
 -- What acceptance says of verdicts that are joined, and which places and numbers refusals have. Rests on the definitions alone.
 --
 --   Near v    a refusal of the verdict v has a place of at most 4,096
-use mathlib.Core.Path.{◌≡◌, refl, ap}
+use mathlib.Core.Path.{◌≡◌, refl, ap, ap₂, ◌∙◌}
 use mathlib.Core.Bool.{Bool, true, false}
 use Prim.Native.Nat.{ℕ, ◌≤◌, ◌<◌}
 use native.Mathlib.Omega.{arith}
@@ -37,6 +37,10 @@ accepts_unless true why e = absurd (refused_accepted e)
 pub then_accepted : (v : Verdict) → (v then (Ok tt)) ≡ v
 then_accepted (Ok _) = refl
 then_accepted (Err why) = refl
+
+-- a check r of two, a and b, that were found by x and y
+pub both : {r x y a b : Verdict} → r ≡ (x then y) → x ≡ a → y ≡ b → r ≡ (a then b)
+both e f g = e ∙ ap₂ ◌then◌ f g
 
 -- ---- places
 

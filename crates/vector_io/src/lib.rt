@@ -2,9 +2,8 @@
 
 #![tactic(auto)]
 
-ghost use Rattle.std.specs.Prelude.{◌≡◌, ℕ, ◌^◌, ◌<◌, length, drop, IfSome};
-ghost use Rattle.std.specs.Io.KnownBytes.{Consumes};
-ghost use Rattle.vector_io.specs.Numbers.{number, Below};
+ghost use Rattle.std.specs.Prelude.{◌≡◌, ℕ, ◌^◌, ◌<◌, drop, IfSome};
+ghost use Rattle.vector_io.specs.Numbers.{number, Below, Front};
 
 use std::io;
 
@@ -36,8 +35,7 @@ pub fn read_front<'a, R: io::Read>(
     size: usize,
     space: &'a mut [u8],
 ) -> Option<&'a [u8]>
-    ensures size { IfSome result (λ bytes. length bytes.now ≡ size) }
-    ensures bytes { IfSome result (λ bytes. Consumes (R.remaining input.old) (R.remaining input.new) bytes.now) }
+    ensures { IfSome result (λ bytes. Front size (R.remaining input.old) (R.remaining input.new) bytes.now) }
 {
     let bytes = space.get_mut(..size)?;
     input.read_exact(bytes).ok()?;

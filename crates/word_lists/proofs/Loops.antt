@@ -4,12 +4,12 @@
 --   WrittenFrom t x₀ x i    the words of x from index i on are those of t, and the first i as they were in x₀
 use mathlib.Core.Path.{◌≡◌, refl, sym, ap, ◌∙◌}
 use mathlib.Core.Logic.{⊎_elim}
-use mathlib.Core.List.{List}
-use Prim.Native.Nat.{ℕ, suc, ◌≤◌, ◌<◌}
+use mathlib.Core.List.{List, ◌++◌}
+use Prim.Native.Nat.{ℕ, suc, ◌+◌, ◌-◌, ◌≤◌, ◌<◌}
 use native.Mathlib.Nat.{eq-or-lt_of_le}
 use native.Mathlib.Omega.{arith}
-use lib.ListN.{length, get_or, set, length-set}
-use lib.Seq.{get_or-set_same, get_or-set_other, ext_get_or}
+use lib.ListN.{length, get_or, set, take, drop, length-set, length-drop, take-append-drop}
+use lib.Seq.{length-take-le, get_or-take, get_or-drop, get_or-set_same, get_or-set_other, ext_get_or}
 use Rattle.ring.specs.Modular.{words}
 use Rattle.lists.proofs.Fill.{Filled, filled_all}
 use Rattle.algebra.specs.Element.{plus, scale}
@@ -20,6 +20,19 @@ Written t x₀ x i = Filled (λ k. get_or t k 0) x₀ x i
 
 pub written_all : {x₀ x : List ℕ} {i : ℕ} (t : List ℕ) → Written t x₀ x i → length x₀ ≤ i → length t ≡ length x₀ → x ≡ t
 written_all t h past e = filled_all t h past e (λ k l. refl)
+
+pub written_front : {x₀ x : List ℕ} {i : ℕ} (t : List ℕ) → Written t x₀ x i → i ≤ length x₀ → length t ≡ i → take i x ≡ t
+written_front {x₀} {x} {i} t h le e =
+    let size : length (take i x) ≡ i = length-take-le i x (omega (arith, h.same)) in
+    ext_get_or 0 (take i x) t (size ∙ sym e) (λ k l. get_or-take i x k 0 (omega (arith, size)) ∙ h.done k (omega (arith, size)))
+
+-- and the other words are as they were
+pub written_first : {x₀ x : List ℕ} {i : ℕ} (t : List ℕ) → Written t x₀ x i → i ≤ length x₀ → length t ≡ i → x ≡ t ++ drop i x₀
+written_first {x₀} {x} {i} t h le e = sym (take-append-drop i x) ∙ (λ j. written_front t h le e j ++ rest j)
+  where
+    rest : drop i x ≡ drop i x₀
+    rest = ext_get_or 0 (drop i x) (drop i x₀) (length-drop i x ∙ ap (λ n. n - i) h.same ∙ sym (length-drop i x₀))
+        (λ k l. get_or-drop i x k 0 ∙ h.rest (i + k) (omega arith) ∙ sym (get_or-drop i x₀ k 0))
 
 -- ---- from the end
 

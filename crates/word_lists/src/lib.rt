@@ -16,12 +16,15 @@ pub fn clear(d: &mut [u64])
 
 // The words of s from an index on, as many as d has, in the place of d.
 // Example: for 2 3 4 5 and the index 1 a list of two words becomes 3 4.
-#[tactic(auto, using(crate::proofs::Into::load_into_lem, crate::proofs::Into::load_into_none))]
+#[tactic(auto, using(crate::proofs::Into::load_into_none))]
 pub fn load(d: &mut [u64], s: &[u64], at: usize)
     ensures { d.new ≡ load_into d.old s.now at }
 {
-    if d.len() <= s.len() && at <= s.len() - d.len() {
-        d.copy_from_slice(&s[at..at + d.len()]);
+    if s.len() < d.len() || s.len() - d.len() < at {
+        return;
+    }
+    for i in 0..d.len() {
+        d[i] = s[at + i];
     }
 }
 

@@ -1,16 +1,11 @@
 -- Each return is one of the tests. Rests on lists' Test and operands' Allowed.
-use Rattle.std.proofs.Common.{◌≡◌, true, ℕ, Ok, length, refl, sym, ap, ◌∙◌}
-use Rattle.std.proofs.Math.Bool.{and-false}
-use Rattle.lists.proofs.Test.{same_yes, same_no}
+use Rattle.std.proofs.Common.{◌≡◌, true, ℕ, Ok, length, sym, ap, ◌∙◌}
+use Rattle.lists.proofs.Test.{same_yes}
 use Rattle.operands.specs.Operands.{may_run}
 use Rattle.operands.proofs.Allowed.{in_range_lem}
 use Rattle.costs.specs.Costs.{cost, cost_call}
 use Rattle.machine.specs.Step.{obey, not_obeyed, step_call}
 use Rattle.machine.proofs.step.Goals as goal
-
-pub returns-in_default : goal.returns-in_default
-unfolding step_call
-returns-in_default c = rw (same_no {x = length c.args.x.now} {a = 2880} c.in_default.ensures.cases, and-false) refl
 
 pub returns-then-not-may_run : goal.returns-then-not-may_run
 unfolding step_call

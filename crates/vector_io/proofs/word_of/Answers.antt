@@ -8,4 +8,4 @@ pub returns : goal.returns
 returns c =
     let x = c.args.bytes.now in
     let is : c.from_le_bytes.result ≡ number x = c.from_le_bytes.ensures ∙ eight_bytes x c.told-bytes in
-    record { value = is; below = λ n e. omega (arith, is, zeros_after x n c.fits-bytes e) }
+    record { value = omega (arith, is); below = λ n e. omega (arith, is, zeros_after x n c.fits-bytes e) }
