@@ -1,7 +1,7 @@
 -- What a reader loses, read after read, and what a run then writes. Rests on Filling and std's lemmas on known bytes.
 --
 --   Lost a b t i    what a reader has left, where that is known, has lost the first i bytes of t: a before, b after
-use mathlib.Core.Path.{◌≡◌, sym, ap, subst, ◌∙◌}
+use mathlib.Core.Path.{◌≡◌, refl, sym, ap, subst, ◌∙◌}
 use mathlib.Core.Bool.{Bool, false}
 use mathlib.Core.List.{List}
 use Prim.Native.Nat.{ℕ, ◌+◌, ◌-◌, ◌≤◌}
@@ -52,6 +52,6 @@ unwritten known {old = old} {new = new} b n size e p f = first_printed known b n
 pub failed : (known : Option (List ℕ)) {old new : Option (List ℕ)} (b : List ℕ) (n : ℕ) (r : Result (Unit {0}) Failure) → length b ≡ 4097 → IsErr r
     → IsErrAnd r (λ e. e ≡ Unwritten) → IfSome known (λ x. take n b ≡ take (length b) x) → WritesFront old new (printed (take n b)) false
     → Runs known old new r
-failed known b n (Err Unwritten) size e is p f = first_printed known b n size p f
+failed known b n (Err Unwritten) size e is p f = unwritten known b n size refl p f
 failed known b n (Err Unread) size e is p f = let z : ◌≡◌ {A = ℕ} 0 1 = cc in absurd (omega arith)
 failed known b n (Ok u) size e is p f = let z : ◌≡◌ {A = ℕ} 0 1 = cc in absurd (omega arith)
