@@ -19,9 +19,9 @@ digits_alike (suc k) (suc j) n h l = go (less? n 10) (digits_alike k j (n / 10))
     go (lt p e) ih = rw e
     go (ge p e) ih = rw e (ap (λ t. t ++ ((48 + n % 10) ∷ [])) (ih (omega arith) (omega arith)))
 
-pub decimal_digit : (n : ℕ) → n < 10 → decimal n ≡ (48 + n % 10) ∷ []
+pub decimal_digit : (n : ℕ) → n < 10 → decimal n ≡ (48 + n) ∷ []
 unfolding decimal digits
-decimal_digit n h = rw (less_yes h) (ap (λ k. (48 + k) ∷ []) (omega arith))
+decimal_digit n h = rw (less_yes h)
 
 pub decimal_last : (n : ℕ) → 10 ≤ n → decimal n ≡ decimal (n / 10) ++ ((48 + n % 10) ∷ [])
 unfolding decimal digits

@@ -3,6 +3,7 @@ pub mod Decimal
 pub mod ReadBack
 pub mod LineLengths
 -- what the functions write
+mod Overwritten
 mod Putting
 mod Listing
 pub mod TextLengths

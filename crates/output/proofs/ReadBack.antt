@@ -13,7 +13,7 @@ unfolding digits_value
 digits_value_append v [] t = refl
 digits_value_append v (d ∷ s) t = digits_value_append (10 * v + (d - 48)) s t
 
-one : (n : ℕ) → n < 10 → Spells ((48 + n % 10) ∷ []) n
+one : (n : ℕ) → n < 10 → Spells ((48 + n) ∷ []) n
 unfolding digits_value
 one n h = record { bytes = ((omega arith, omega arith), tt); number = omega arith; first = ap (λ d. d ∷ []) }
 

@@ -1,10 +1,15 @@
 -- What inner contracts cite.
 --
---   Room n t            the buffer of the text t has room for n bytes more
---   Puts x t u          u is the text t with x put after it, in the same buffer
+--   Overwritten at x t u next   u is t with x in the place of its elements from an index on, and the next index
+--   Room n t                    the buffer of the text t has room for n bytes more
+--   Puts x t u                  u is the text t with x put after it, in the same buffer
 use Rattle.std.specs.Prelude.{◌≡◌, List, ℕ, ◌+◌, ◌≤◌, length}
 use Rattle.lists.specs.Overwrite.{overwrite}
 use Rattle.output.specs.declared.lines.Text.{Text}
+
+pub record Overwritten (at : ℕ) (x t u : List ℕ) (next : ℕ) : Type 0 where
+  pub text : u ≡ overwrite at x t
+  pub ends : next ≡ at + length x
 
 pub record Room (n : ℕ) (t : Text) : Type 0 where
   pub within : t.size + n ≤ length t.bytes.now

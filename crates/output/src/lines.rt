@@ -2,7 +2,7 @@
 
 ghost use Rattle.std.specs.Prelude.{[], ◌∷◌, ◌+◌, ◌*◌, ◌≤◌, length};
 ghost use Rattle.output.specs.Text.{decimal, pair_line, line, tagged_pair, coefficients};
-ghost use Rattle.output.specs.Steps.{Room, Puts};
+ghost use Rattle.output.specs.Steps.{Overwritten, Room, Puts};
 
 // A lent buffer, and how many bytes of text stand at its front. Its bytes are put one by one, since `write!` may fail, and says nothing then.
 // Its room is required where it is used, since a ghost field beside a `&mut` gets no generated proof.
@@ -21,15 +21,12 @@ impl Text<'_> {
         self.size += 1;
     }
 
-    // The number in base ten: its digits but the last, and then the last.
+    // The number in base ten.
     fn put_number(&mut self, n: u64)
         requires { Room (length (decimal n)) self.old }
         ensures { Puts (decimal n) self.old self.new }
     {
-        if 10 <= n {
-            self.put_number(n / 10);
-        }
-        self.put_byte(b'0' + (n % 10) as u8);
+        self.size = write_digits(self.bytes, self.size, n);
     }
 
     // A space and a number.
@@ -86,4 +83,19 @@ impl Text<'_> {
             }
         }
     }
+}
+
+// The digits of n from an index on: those but the last, and then the last. The answer is the index after them. The index is a value
+// here, since behind a `&mut` it would be read and written again for each digit.
+fn write_digits(bytes: &mut [u8], at: usize, n: u64) -> usize
+    requires { at + length (decimal n) ≤ length bytes.old }
+    ensures { Overwritten at (decimal n) bytes.old bytes.new result }
+{
+    if n < 10 {
+        bytes[at] = b'0' + n as u8;
+        return at + 1;
+    }
+    let last = write_digits(bytes, at, n / 10);
+    bytes[last] = b'0' + (n % 10) as u8;
+    last + 1
 }

@@ -1,11 +1,11 @@
 -- One store.
 use Rattle.std.proofs.Common.{refl, arith, length-set}
-use Rattle.output.proofs.Putting.{overwritten_byte}
+use Rattle.output.proofs.Overwritten.{overwritten_byte}
 use Rattle.output.proofs.lines.Text.put_byte.Goals as goal
 
 pub returns : goal.returns
 returns c = let t = c.args.self.now in record {
-  text = overwritten_byte t.size c.args.b t.bytes.now (omega (arith, c.requires.within));
+  text = (overwritten_byte t.size c.args.b t.bytes.now (omega (arith, c.requires.within))).text;
   ends = refl;
   room = length-set t.bytes.now t.size c.args.b;
   within = omega (arith, c.requires.within, length-set t.bytes.now t.size c.args.b);

@@ -1,0 +1,5 @@
+-- The measure is the number.
+use Rattle.output.proofs.lines.+write_digits.Given as goal
+
+abbrev pub decreases-write_digits : goal.decreases-write_digits
+decreases-write_digits l = l.n
