@@ -16,8 +16,8 @@ use Rattle.output.specs.Printed.{front, text_call, error_call}
 pub front_put : {x : List ℕ} {t u : Text} → t.size ≡ 0 → Puts x t u → front x t.bytes.now ≡ record { answer = u.size; lent = u.bytes.now }
 unfolding front
 front_put {x} {t} {u} e p =
-    let size : length x ≡ u.size = omega (arith, p.ends, e) in
-    λ i. record { answer = size i; lent = (ap (λ n. overwrite n x t.bytes.now) (sym e) ∙ sym p.text) i }
+    let size : length x ≡ u.size = omega (arith, p.put.ends, e) in
+    λ i. record { answer = size i; lent = (ap (λ n. overwrite n x t.bytes.now) (sym e) ∙ sym p.put.text) i }
 
 -- the buffer comes back as b
 pub lent_back : {o : Outcome ℕ (List ℕ)} {n : ℕ} {a b : List ℕ} → o ≡ record { answer = n; lent = a } → a ≡ b → o ≡ record { answer = n; lent = b }

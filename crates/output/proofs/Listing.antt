@@ -79,7 +79,7 @@ module _ {h : List ℕ} {t u : Text} {i : ℕ} (a : Listed h t u i) where
       within = omega (
         arith,
         a.fits.within,
-        a.written.ends,
+        a.written.put.ends,
         a.written.room,
         part_shorter h (i + 1),
         simp length-append at (ap length (next_line h i l)),

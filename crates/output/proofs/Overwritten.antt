@@ -1,4 +1,4 @@
--- Writes into a text, one after another. Rests on lists' Overwrite.
+-- Writes into a list from an index on, one after another. Rests on lists' Overwrite.
 use mathlib.Core.Path.{◌≡◌, refl, sym, ap, ap₂, ◌∙◌}
 use mathlib.Core.List.{List, [], ◌∷◌, ◌++◌}
 use Prim.Native.Nat.{ℕ, ◌+◌, ◌≤◌, ◌<◌}

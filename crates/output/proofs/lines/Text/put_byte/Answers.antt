@@ -5,8 +5,7 @@ use Rattle.output.proofs.lines.Text.put_byte.Goals as goal
 
 pub returns : goal.returns
 returns c = let t = c.args.self.now in record {
-  text = (overwritten_byte t.size c.args.b t.bytes.now (omega (arith, c.requires.within))).text;
-  ends = refl;
+  put = overwritten_byte t.size c.args.b t.bytes.now (omega (arith, c.requires.within));
   room = length-set t.bytes.now t.size c.args.b;
   within = omega (arith, c.requires.within, length-set t.bytes.now t.size c.args.b);
   same = refl;
